@@ -1,0 +1,12 @@
+pub mod Codes
+pub mod Tree
+pub mod Written
+pub mod Reading
+pub mod Refusals
+pub mod Texts
+pub mod Mentions
+pub mod Operations
+pub mod Cells
+pub mod Words
+pub mod Compiled
+pub mod Programs

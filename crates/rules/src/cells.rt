@@ -1,0 +1,16 @@
+// Where things stand among the thousand cells of a store, and the limits that follow.
+pub const PLACE_REGISTER: u64 = 0;
+
+pub const READING_ORGAN: u64 = 1;
+
+pub const LABEL: u64 = 1;
+
+pub const VARIABLES: u64 = 2;
+
+pub const LETTERS: u64 = 28;
+
+pub const CONSTANTS: u64 = 54;
+
+pub const TEMPORARIES: u64 = 500;
+
+pub const POINTED: u64 = 1000;
