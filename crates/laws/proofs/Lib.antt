@@ -1,1 +1,4 @@
 pub mod Shown
+pub mod Digits
+pub mod Back
+pub mod Lines
