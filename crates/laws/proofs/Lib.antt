@@ -2,3 +2,8 @@ pub mod Shown
 pub mod Digits
 pub mod Back
 pub mod Lines
+pub mod Each
+pub mod Groups
+pub mod Limits
+pub mod Cutting
+pub mod Parsing
