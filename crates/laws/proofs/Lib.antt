@@ -7,3 +7,5 @@ pub mod Groups
 pub mod Limits
 pub mod Cutting
 pub mod Parsing
+pub mod Waiting
+pub mod Accepting

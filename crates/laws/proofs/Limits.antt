@@ -1,24 +1,20 @@
 -- What is judged after all lines, said of the whole program: its letters, its constants, its instructions.
 use Prim.Native.Nat.{ℕ, suc, _+_, _≤_}
-use mathlib.Core.Path.{_≡_, refl, sym, _∙_}
+use mathlib.Core.Path.{_≡_, refl, sym}
 use mathlib.Core.Bool.{Bool, true, false, cond, _||_}
-use mathlib.Core.Logic.{_⊎_, inl, inr}
 use mathlib.Core.List.{List, [], _∷_, _++_}
 use native.Mathlib.Omega.{arith}
-use native.Mathlib.Nat.{add-assoc}
 use lib.Dec.{eqb, leb, ltb}
 use lib.ListN.{length}
 use Rattle.std.proofs.shelf.Lists.{length-append}
 use Rattle.std.proofs.shelf.Tests.{false≢true, leb-true, le-leb, cond-both}
 use Rattle.std.proofs.shelf.Ways.{decides-at, decides-like, decides-or, decides-eqb}
 use Rattle.std.specs.Orderings.{Decides}
-use Rattle.std.specs.declared.option.Option.{Option}
 use Rattle.std.specs.declared.option.Option.the-variants.{Some, None}
 use Rattle.rules.specs.declared.formula.Atom.{Atom}
 use Rattle.rules.specs.declared.formula.Atom.the-variants.{Variable, Pointed, Letter, Constant}
-use Rattle.rules.specs.declared.refusal.Report.{Report}
 use Rattle.rules.specs.Refusals.{report}
-use Rattle.rules.specs.Tree.{Side, Line, Program}
+use Rattle.rules.specs.Tree.{Side, Program}
 use Rattle.rules.specs.Texts.{has}
 use Rattle.rules.specs.Mentions.{Mention, grouped, firstLoose, placeOf, noting, different, constantLimit, firstPast}
 use Rattle.rules.specs.Operations.{sideCount, instructions, instructionLimit, firstOver}

@@ -1,5 +1,5 @@
 -- The lines of a text, read one after another: which texts are read, and as what.
-use Prim.Native.Nat.{ℕ, suc, _+_, _-_, _≤_}
+use Prim.Native.Nat.{ℕ, suc, _-_, _≤_}
 use mathlib.Core.Path.{_≡_, refl, sym, ap, subst, _∙_}
 use mathlib.Core.Bool.{Bool, true, false, cond}
 use mathlib.Core.List.{List, [], _∷_, _++_, reverse, reverse-cons, append-assoc, append-nil}
@@ -7,13 +7,12 @@ use native.Mathlib.Omega.{arith}
 use lib.Dec.{eqb, leb}
 use lib.ListN.{length}
 use Rattle.std.proofs.shelf.Tests.{le-leb, leb-true, eqb-true}
-use Rattle.rules.specs.declared.refusal.Report.{Report}
 use Rattle.rules.specs.declared.refusal.Fault.the-variants.{LineEndMissing}
 use Rattle.rules.specs.Refusals.{report}
 use Rattle.rules.specs.Tree.{Line, Program}
 use Rattle.rules.specs.Written.{writtenLine, writtenText}
-use Rattle.rules.specs.Reading.{Read, got, fails, lineAt, lineRead, lineLimit}
-use Rattle.rules.specs.Texts.{Text, tail, line, cut, awaited, allowed, Parsed, program, refused, onLine, parsedFrom}
+use Rattle.rules.specs.Reading.{Read, got, fails, lineAt, lineLimit}
+use Rattle.rules.specs.Texts.{Text, tail, line, cut, awaited, allowed, program, refused, onLine, parsedFrom}
 use Rattle.rules.specs.Programs.{GoodLine, AllOf}
 use Rattle.laws.proofs.Cutting.{uncut, cut-line}
 use Rattle.laws.proofs.Groups.{Follows}
@@ -24,7 +23,7 @@ Short k = length (writtenLine k) ≤ lineLimit
 moved : (k : Line) (above ks : List Line) → reverse (k ∷ above) ++ ks ≡ reverse above ++ (k ∷ ks)
 moved k above ks = ap (λ (o : List Line). o ++ ks) (reverse-cons k above) ∙ append-assoc (reverse above) (k ∷ []) ks
 
-same-program : {ks ls : Program} → program ks ≡ program ls → ks ≡ ls
+pub same-program : {ks ls : Program} → program ks ≡ program ls → ks ≡ ls
 same-program e = cc
 
 -- what a text that is read as ks holds, after the lines above

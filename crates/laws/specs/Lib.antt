@@ -1,2 +1,4 @@
 pub mod Examples
 pub mod Roundtrip
+pub mod Accepted
+pub mod Temporaries

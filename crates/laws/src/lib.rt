@@ -1,5 +1,7 @@
 ghost use Rattle.laws.specs.Examples.{Examples};
 ghost use Rattle.laws.specs.Roundtrip.{OperandsRead, OperandsWritten, LinesRead, LinesWritten};
+ghost use Rattle.laws.specs.Accepted.{Written-accepted, Accepted-written, Text-reads, Read-writes, One-program};
+ghost use Rattle.laws.specs.Temporaries.{Temporaries-fit, Operations-few};
 
 // The worked examples hold of the definitions.
 pub fn examples_stand() -> u8
@@ -14,6 +16,25 @@ pub fn reading_undoes_writing() -> u8
     ensures operands_back { λ _. ⌜ OperandsWritten ⌝ }
     ensures lines { λ _. ⌜ LinesRead ⌝ }
     ensures lines_back { λ _. ⌜ LinesWritten ⌝ }
+{
+    0
+}
+
+// The texts that are accepted are those that write a well-formed program, each one program.
+pub fn acceptance() -> u8
+    ensures written_accepted { λ _. ⌜ Written-accepted ⌝ }
+    ensures accepted_written { λ _. ⌜ Accepted-written ⌝ }
+    ensures text_reads { λ _. ⌜ Text-reads ⌝ }
+    ensures read_writes { λ _. ⌜ Read-writes ⌝ }
+    ensures one_program { λ _. ⌜ One-program ⌝ }
+{
+    0
+}
+
+// A line is too short to need a temporary past the last, or more operations than a line's share.
+pub fn temporaries_suffice() -> u8
+    ensures fit { λ _. ⌜ Temporaries-fit ⌝ }
+    ensures few { λ _. ⌜ Operations-few ⌝ }
 {
     0
 }

@@ -1,0 +1,26 @@
+-- The cells for results that wait, 500 to 515, are enough for every line.
+use Prim.Native.Nat.{ℕ, _≤_}
+use lib.ListN.{length}
+use Rattle.rules.specs.declared.operation.Source.{Source}
+use Rattle.rules.specs.declared.operation.Source.the-variants.{Named, Temporary}
+use Rattle.rules.specs.declared.operation.Operation.{Operation}
+use Rattle.rules.specs.Tree.{Line}
+use Rattle.rules.specs.Written.{writtenLine}
+use Rattle.rules.specs.Reading.{lineLimit}
+use Rattle.rules.specs.Operations.{sideOperations}
+use Rattle.rules.specs.Programs.{GoodLine, AllOf}
+
+abbrev pub FitsSource : Source → Type 0
+FitsSource (Named x) = Unit {0}
+FitsSource (Temporary t) = t ≤ 15
+
+pub record FitsOperation (o : Operation) : Type 0 where
+  pub left : FitsSource (o .left)
+  pub right : FitsSource (o .right)
+  pub result : o .result ≤ 15
+
+abbrev pub Temporaries-fit : Type 0
+Temporaries-fit = (k : Line) → GoodLine k → length (writtenLine k) ≤ lineLimit → AllOf FitsOperation (sideOperations (k .side))
+
+abbrev pub Operations-few : Type 0
+Operations-few = (k : Line) → GoodLine k → length (writtenLine k) ≤ lineLimit → length (sideOperations (k .side)) ≤ 19
