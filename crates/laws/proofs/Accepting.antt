@@ -70,7 +70,8 @@ unless-none (Some r) x ws e = let z : _≡_ {A = ℕ} 0 1 = cc in absurd (omega 
 same-tape : {vs ws : List ℕ} → tape vs ≡ tape ws → vs ≡ ws
 same-tape e = cc
 
--- each judgement passed, so each limit holds, and the tape is the one that is then given
+-- A judgement that finds fault ends in a refusal, so on the way to a tape each found none, and each limit holds.
+-- The tape is the one that is given after the last of them.
 judged-well : (text : List ℕ) (ks : Program) (ws : List ℕ) → length text ≤ textLimit → Ruled text ks → judged ks ≡ tape ws → WellFormed ks × (ws ≡ tapeOf (constantsOf ks) ks)
 judged-well text ks ws h r e =
     let a = unless-none (firstLoose ks (programMentions 1 ks)) (unless (firstPast (programMentions 1 ks) []) (unless (firstOver 0 1 ks) (tape (tapeOf (constantsOf ks) ks)))) ws e in

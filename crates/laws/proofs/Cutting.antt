@@ -31,6 +31,7 @@ uncut-begun : (x : ℕ) (t : Text) → uncut (begun x t) ≡ x ∷ uncut t
 uncut-begun x (tail p) = refl
 uncut-begun x (line p t) = refl
 
+-- Cutting drops only line ends, and each is put back where a line ended.
 pub uncut-cut : (xs : List ℕ) → uncut (cut xs) ≡ xs
 uncut-cut [] = refl
 uncut-cut (x ∷ xs) = by (eqb x 10) refl (uncut-cut xs)
@@ -40,6 +41,7 @@ uncut-cut (x ∷ xs) = by (eqb x 10) refl (uncut-cut xs)
     by false e i = uncut-begun x (cut xs) ∙ ap (λ (o : List ℕ). x ∷ o) i
 
 -- Each byte of a written line is past the line end, byte 10: letters, digits and signs all are.
+-- So the first line end after a written line is its own, and the cut falls there.
 abbrev Past : ℕ → Type 0
 Past x = 10 < x
 

@@ -1,4 +1,4 @@
--- What holds of each element of two lists holds of each of both, and back.
+-- What holds of each element of two lists holds of each of both together, and so of the second part.
 use mathlib.Core.List.{List, [], _∷_, _++_}
 use Rattle.rules.specs.Programs.{AllOf}
 

@@ -80,7 +80,7 @@ none-past (m ∷ ms) cs h e = by (leb (length (noting cs (m .what))) constantLim
     by true q f more = more (leb-true (length (noting cs (m .what))) constantLimit q) f
     by false q f more = let z : _≡_ {A = ℕ} 0 1 = cc in absurd (omega arith)
 
--- the count of instructions only grows, too
+-- The count of instructions only grows too, so no line goes past the limit just where the whole program does not.
 pub over-none : (ks : Program) (w l : ℕ) → w + instructions ks ≤ instructionLimit → firstOver w l ks ≡ None
 over-none [] w l h = refl
 over-none (k ∷ ks) w l h =

@@ -48,7 +48,8 @@ module _ (reads : (k : Line) → GoodLine k → lineAt (writtenLine k) ≡ got k
   unfolding parsedFrom
   no-line above e = rw e
 
-  -- Each line is cut off whole and read as itself, and the rule admits it, so the lines are gathered one by one.
+  -- Each line is cut off whole and read as itself, and the rule admits it.
+  -- So the lines are gathered one by one, and at the end no group is open.
   pub parses : (ks above : List Line) → AllOf GoodLine ks → AllOf Short ks → Follows above ks → parsedFrom (cut (writtenText ks)) above ≡ program (reverse above ++ ks)
   parses [] above g h f = no-line above f ∙ ap program (sym (append-nil (reverse above)))
   parses (k ∷ ks) above g h f =
@@ -59,7 +60,8 @@ module _ (reads : (k : Line) → GoodLine k → lineAt (writtenLine k) ≡ got k
   at-end true above ks n h e = record { lines = []; whole = sym (same-program e) ∙ sym (append-nil (reverse above)); good = tt; short = tt; follows = eqb-true (awaited above) 0 h; text = refl }
   at-end false above ks n h e = let z : _≡_ {A = ℕ} 0 1 = cc in absurd (omega arith)
 
-  -- The way back: every test on the way to a program was passed, and what each line was read as is what it writes.
+  -- The way back: a test that fails ends in a refusal, so on the way to a program each was passed.
+  -- What a line was read as writes just that line, so the lines write the text.
   pub shows : (t : Text) (above ks : List Line) → parsedFrom t above ≡ program ks → Shows t above ks
   unfolding parsedFrom
   shows (tail []) above ks e = at-end (eqb (awaited above) 0) above ks _ refl e

@@ -18,9 +18,11 @@ Written-accepted = (ks : Program) → WellFormed ks → compiled (writtenText ks
 abbrev pub Accepted-written : Type 0
 Accepted-written = (text ws : List ℕ) → compiled text ≡ tape ws → (ks : Program) × WellFormed ks × (text ≡ writtenText ks) × (ws ≡ tapeOf (constantsOf ks) ks)
 
+-- the lines of a written program are read as that program
 abbrev pub Text-reads : Type 0
 Text-reads = (ks : Program) → WellFormed ks → parsed (writtenText ks) ≡ program ks
 
+-- a text that is read is the one that writes what it was read as
 abbrev pub Read-writes : Type 0
 Read-writes = (text : List ℕ) (ks : Program) → parsed text ≡ program ks → text ≡ writtenText ks
 

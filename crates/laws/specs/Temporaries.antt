@@ -10,6 +10,7 @@ use Rattle.rules.specs.Reading.{lineLimit}
 use Rattle.rules.specs.Operations.{sideOperations}
 use Rattle.rules.specs.Programs.{GoodLine, AllOf}
 
+-- an operand that waits is in a temporary from 0 to 15
 abbrev pub FitsSource : Source → Type 0
 FitsSource (Named x) = Unit {0}
 FitsSource (Temporary t) = t ≤ 15
@@ -19,8 +20,10 @@ pub record FitsOperation (o : Operation) : Type 0 where
   pub right : FitsSource (o .right)
   pub result : o .result ≤ 15
 
+-- no operation of a line asks for another temporary, as an operand or for its result
 abbrev pub Temporaries-fit : Type 0
 Temporaries-fit = (k : Line) → GoodLine k → length (writtenLine k) ≤ lineLimit → AllOf FitsOperation (sideOperations (k .side))
 
+-- and a line has at most 19 operations
 abbrev pub Operations-few : Type 0
 Operations-few = (k : Line) → GoodLine k → length (writtenLine k) ≤ lineLimit → length (sideOperations (k .side)) ≤ 19

@@ -31,7 +31,7 @@ pub fn acceptance() -> u8
     0
 }
 
-// A line is too short to need a temporary past the last, or more operations than a line's share.
+// A line of at most 80 bytes is too short for a temporary past 15 and for more than 19 operations.
 pub fn temporaries_suffice() -> u8
     ensures fit { λ _. ⌜ Temporaries-fit ⌝ }
     ensures few { λ _. ⌜ Operations-few ⌝ }
