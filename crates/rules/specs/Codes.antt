@@ -36,8 +36,20 @@ transferCode = 5
 abbrev pub signRow : Sign → CodeRow
 signRow s = record { sign = Some s; byte = signByte s; code = codeOf s; arity = 2 }
 
+abbrev pub transferRow : CodeRow
+transferRow = record { sign = None; byte = 0; code = transferCode; arity = 1 }
+
 abbrev pub codeTable : List CodeRow
-codeTable = signRow Sum ∷ (signRow Product ∷ (signRow Difference ∷ (signRow Quotient ∷ (record { sign = None; byte = 0; code = transferCode; arity = 1 } ∷ (signRow Distance ∷ (signRow Remainder ∷ (signRow Greater ∷ (signRow Smaller ∷ []))))))))
+codeTable =
+    signRow Sum
+    ∷ (signRow Product
+    ∷ (signRow Difference
+    ∷ (signRow Quotient
+    ∷ (transferRow
+    ∷ (signRow Distance
+    ∷ (signRow Remainder
+    ∷ (signRow Greater
+    ∷ (signRow Smaller ∷ []))))))))
 
 -- the sign of the first row with two operands that has this byte
 abbrev pub signOf : ℕ → List CodeRow → Option Sign

@@ -1,6 +1,6 @@
 ghost use mathlib.Core.Path.{_≡_};
 ghost use Prim.Native.Nat.{ℕ, _<_, _≤_};
-ghost use Rattle.rules.specs.Codes.{codeTable, signOf, signRow};
+ghost use Rattle.rules.specs.Codes.{codeTable, signOf, signRow, transferRow};
 use crate::sign::CodeRow;
 use crate::sign::Sign;
 
@@ -79,6 +79,13 @@ pub fn sign_of(byte: u8) -> Option<Sign>
         }
     }
     None
+}
+
+// The row of the transfer.
+pub fn transfer() -> CodeRow
+    ensures { λ r. ⌜ r ≡ transferRow ⌝ }
+{
+    CODES[4]
 }
 
 impl Sign {
