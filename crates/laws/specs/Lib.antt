@@ -1,2 +1,3 @@
 pub mod Examples
 pub mod Roundtrip
+pub mod Places
