@@ -20,17 +20,17 @@ use Rattle.rules.specs.Operations.{instructions, instructionLimit, firstOver}
 use Rattle.rules.specs.Words.{tapeOf}
 use Rattle.rules.specs.Compiled.{Outcome, tape, refuse, unless, judged, onParsed, compiled}
 use Rattle.rules.specs.Programs.{GoodLine, Group, groupLines, letters, AllOf, In, WellFormed}
-use Rattle.laws.specs.Accepted.{Written-accepted, Accepted-written, Text-reads, Read-writes, One-program}
+use Rattle.laws.specs.Accepted.{WrittenAccepted, AcceptedWritten, TextReads, ReadWrites, OneProgram}
 use Rattle.laws.proofs.Lines.{lines-read, lines-written}
 use Rattle.laws.proofs.Groups.{Follows, groups-ruled, ruled-groups}
 use Rattle.laws.proofs.Limits.{letters-told, loose-none, none-loose, past-none, none-past, over-none, none-over}
 use Rattle.laws.proofs.Cutting.{uncut-cut}
 use Rattle.laws.proofs.Parsing.{Short, same-program, parses, shows}
 
-pub text-reads : Text-reads
+pub text-reads : TextReads
 text-reads ks w = parses lines-read lines-written ks [] (w .good) (w .short) (groups-ruled ks w)
 
-pub one-program : One-program
+pub one-program : OneProgram
 one-program ks ls v w e = same-program (sym (text-reads ks v) ∙ (ap parsed e ∙ text-reads ls w))
 
 -- what the reading of a text shows of its program
@@ -46,7 +46,7 @@ ruled text ks e =
     let q : s .lines ≡ ks = sym (s .whole) in
     record { good = subst (AllOf GoodLine) q (s .good); short = subst (AllOf Short) q (s .short); follows = subst (Follows []) q (s .follows); writes = sym (uncut-cut text) ∙ (s .text ∙ ap writtenText q) }
 
-pub read-writes : Read-writes
+pub read-writes : ReadWrites
 read-writes text ks e = ruled text ks e .writes
 
 -- a line's group is there just where its letter is one of the groups'
@@ -59,7 +59,7 @@ passes ks a b c = rw (a, b, c)
 well-judged : (ks : Program) → WellFormed ks → judged ks ≡ tape (tapeOf (constantsOf ks) ks)
 well-judged ks w = passes ks (loose-none ks (letters (w .groups)) (told ks (w .groups) (w .lines)) (programMentions 1 ks) (w .grouped)) (past-none (programMentions 1 ks) [] (w .constants)) (over-none ks 0 1 (omega (arith, w .few)))
 
-pub written-accepted : Written-accepted
+pub written-accepted : WrittenAccepted
 unfolding compiled
 written-accepted ks w = rw (le-leb (length (writtenText ks)) textLimit (w .brief)) (ap onParsed (text-reads ks w) ∙ well-judged ks w)
 
@@ -81,7 +81,7 @@ judged-well text ks ws h r e =
     let n : instructions ks ≤ instructionLimit = omega (arith, none-over ks 0 1 (omega arith) (c .0)) in
     (record { groups = g .groups; lines = g .lines; more = g .more; firstA = g .firstA; distinct = g .distinct; inner = g .inner; good = r .good; short = r .short; grouped = none-loose ks (letters (g .groups)) (told ks (g .groups) (g .lines)) (programMentions 1 ks) (a .0); constants = none-past (programMentions 1 ks) [] (omega arith) (b .0); few = n; brief = subst (λ (o : List ℕ). length o ≤ textLimit) (r .writes) h }, sym (same-tape (c .1)))
 
-pub accepted-written : Accepted-written
+pub accepted-written : AcceptedWritten
 unfolding compiled
 accepted-written text ws e = by (leb (length text) textLimit) (parsed text) refl refl e
   where

@@ -16,7 +16,7 @@ use Rattle.std.proofs.shelf.Ways.{tells}
 use Rattle.std.specs.Iters.{folded}
 use Rattle.std.specs.Written.{decimal}
 use Rattle.rules.specs.declared.formula.Start.the-variants as S
-use Rattle.rules.specs.Reading.{Read, got, first, isDigit, start, digitRun, Digits, numberOf, proper, constantAt}
+use Rattle.rules.specs.Reading.{got, first, isDigit, start, digitRun, Digits, numberOf, proper, constantAt}
 
 pub numerals : Numerals Digits numberOf
 numerals = numerals-by-fold Digits tells-by-index (folded (λ n d. n * 10 + (d - 48))) (search needs)

@@ -9,3 +9,4 @@ pub mod Cutting
 pub mod Parsing
 pub mod Waiting
 pub mod Accepting
+pub mod Places

@@ -1,15 +1,14 @@
 -- A line that is written is read again as what it was, and what was read as a line is what was written.
-use Prim.Native.Nat.{ℕ, _<_, _≤_, _^_}
+use Prim.Native.Nat.{ℕ, _≤_}
 use mathlib.Core.Path.{_≡_, refl, sym, ap, subst, _∙_}
 use mathlib.Core.Bool.{Bool, true, false}
 use mathlib.Core.List.{List, [], _∷_, _++_, append-assoc, append-nil}
 use mathlib.Core.Logic.{_⊎_, inl, inr}
 use native.Mathlib.Omega.{arith}
 use lib.Dec.{eqb}
-use lib.ListN.{length, getD, drop}
+use lib.ListN.{drop}
 use Rattle.std.proofs.shelf.Ways.{tells}
 use Rattle.std.proofs.shelf.Tests.{ne-eqb, eqb-true}
-use Rattle.std.specs.Written.{decimal}
 use Rattle.rules.specs.declared.sign.Sign.{Sign}
 use Rattle.rules.specs.declared.sign.Sign.the-variants.{Sum, Product, Difference, Quotient, Distance, Remainder, Greater, Smaller}
 use Rattle.rules.specs.declared.formula.Start.{Start}
@@ -21,7 +20,7 @@ use Rattle.rules.specs.declared.formula.Target.the-variants as T
 use Rattle.rules.specs.Codes.{signByte}
 use Rattle.rules.specs.Tree.{Operand, atom, pair, Side, reading, single, both, Line}
 use Rattle.rules.specs.Written.{written, writtenAtom, writtenSide, writtenTarget, writtenLine}
-use Rattle.rules.specs.Reading.{Read, got, fails, onward, first, start, digitRun, byteAt, variableAt, letterAt, signAt, operandAt, secondAt, depthLimit, openingAt, singleOn, sideAfter, sideOn, sideAt, targetOn, targetAt, endAt, lineAt}
+use Rattle.rules.specs.Reading.{got, onward, first, start, byteAt, variableAt, letterAt, operandAt, secondAt, depthLimit, openingAt, singleOn, sideAfter, sideOn, sideAt, targetOn, targetAt, endAt}
 use Rattle.rules.specs.Programs.{GoodAtom, GoodOperand, GoodSide, GoodTarget, GoodLine}
 use Rattle.laws.specs.Roundtrip.{LinesRead, LinesWritten}
 use Rattle.laws.proofs.Digits.{constant-start}
@@ -57,7 +56,7 @@ sign-comma Remainder = refl
 sign-comma Greater = refl
 sign-comma Smaller = refl
 
-after-reads : (l r : Operand) (s : Sign) (rest : List ℕ) → secondAt depthLimit (signByte s ∷ (written r ++ rest)) ≡ got (s, r) rest → sideAfter l (signByte s ∷ (written r ++ rest)) ≡ got (both l s r) rest
+pub after-reads : (l r : Operand) (s : Sign) (rest : List ℕ) → secondAt depthLimit (signByte s ∷ (written r ++ rest)) ≡ got (s, r) rest → sideAfter l (signByte s ∷ (written r ++ rest)) ≡ got (both l s r) rest
 after-reads (atom x) r s rest e = rw (sign-comma s, e)
 after-reads (pair x o y) r s rest e = rw e
 

@@ -14,7 +14,7 @@ use Rattle.rules.specs.Tree.{Operand, atom, pair, Side, reading, single, both, 
 use Rattle.rules.specs.Written.{writtenAtom, written, writtenSide, writtenTarget, writtenLine}
 use Rattle.rules.specs.Operations.{source, waitingAfter, operations, sideOperations}
 use Rattle.rules.specs.Programs.{GoodAtom, GoodOperand, GoodSide, AllOf}
-use Rattle.laws.specs.Temporaries.{FitsSource, FitsOperation, Temporaries-fit, Operations-few}
+use Rattle.laws.specs.Temporaries.{FitsSource, FitsOperation, TemporariesFit, OperationsFew}
 use Rattle.laws.proofs.Each.{all-append}
 
 atom-some : (x : atoms.Atom) → GoodAtom x → 0 < length (writtenAtom x)
@@ -75,7 +75,7 @@ side-length k h =
 both-length : (l r : Operand) (s : Sign) → length (written (pair l s r)) ≡ 2 + length (writtenSide (both l s r))
 both-length l r s = simp length-append (omega arith)
 
-pub temporaries-fit : Temporaries-fit
+pub temporaries-fit : TemporariesFit
 temporaries-fit k g h = by (k .side) (g .side) (side-length k h)
   where
     by : (z : Side) → GoodSide z → length (writtenSide z) ≤ 76 → AllOf FitsOperation (sideOperations z)
@@ -83,7 +83,7 @@ temporaries-fit k g h = by (k .side) (g .side) (side-length k h)
     by (single x) q n = tt
     by (both l s r) q n = operand-fits (pair l s r) 17 0 0 q (omega arith) (omega (arith, both-length l r s))
 
-pub operations-few : Operations-few
+pub operations-few : OperationsFew
 operations-few k g h = by (k .side) (g .side) (side-length k h)
   where
     by : (z : Side) → GoodSide z → length (writtenSide z) ≤ 76 → length (sideOperations z) ≤ 19

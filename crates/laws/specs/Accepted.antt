@@ -11,21 +11,21 @@ use Rattle.rules.specs.Compiled.{compiled, tape}
 use Rattle.rules.specs.Programs.{WellFormed}
 
 -- every well-formed program, as it is written, compiles to its tape
-abbrev pub Written-accepted : Type 0
-Written-accepted = (ks : Program) → WellFormed ks → compiled (writtenText ks) ≡ tape (tapeOf (constantsOf ks) ks)
+abbrev pub WrittenAccepted : Type 0
+WrittenAccepted = (ks : Program) → WellFormed ks → compiled (writtenText ks) ≡ tape (tapeOf (constantsOf ks) ks)
 
 -- a text that compiles to a tape writes a well-formed program, and the tape is that program's
-abbrev pub Accepted-written : Type 0
-Accepted-written = (text ws : List ℕ) → compiled text ≡ tape ws → (ks : Program) × WellFormed ks × (text ≡ writtenText ks) × (ws ≡ tapeOf (constantsOf ks) ks)
+abbrev pub AcceptedWritten : Type 0
+AcceptedWritten = (text ws : List ℕ) → compiled text ≡ tape ws → (ks : Program) × WellFormed ks × (text ≡ writtenText ks) × (ws ≡ tapeOf (constantsOf ks) ks)
 
 -- the lines of a written program are read as that program
-abbrev pub Text-reads : Type 0
-Text-reads = (ks : Program) → WellFormed ks → parsed (writtenText ks) ≡ program ks
+abbrev pub TextReads : Type 0
+TextReads = (ks : Program) → WellFormed ks → parsed (writtenText ks) ≡ program ks
 
 -- a text that is read is the one that writes what it was read as
-abbrev pub Read-writes : Type 0
-Read-writes = (text : List ℕ) (ks : Program) → parsed text ≡ program ks → text ≡ writtenText ks
+abbrev pub ReadWrites : Type 0
+ReadWrites = (text : List ℕ) (ks : Program) → parsed text ≡ program ks → text ≡ writtenText ks
 
 -- a text means one program
-abbrev pub One-program : Type 0
-One-program = (ks ls : Program) → WellFormed ks → WellFormed ls → writtenText ks ≡ writtenText ls → ks ≡ ls
+abbrev pub OneProgram : Type 0
+OneProgram = (ks ls : Program) → WellFormed ks → WellFormed ls → writtenText ks ≡ writtenText ls → ks ≡ ls

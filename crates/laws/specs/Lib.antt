@@ -2,3 +2,4 @@ pub mod Examples
 pub mod Roundtrip
 pub mod Accepted
 pub mod Temporaries
+pub mod Places

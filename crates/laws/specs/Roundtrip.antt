@@ -4,7 +4,7 @@ use mathlib.Core.Path.{_≡_}
 use mathlib.Core.List.{List, [], _++_}
 use Rattle.rules.specs.Tree.{Operand, Line}
 use Rattle.rules.specs.Written.{written, writtenLine}
-use Rattle.rules.specs.Reading.{Read, got, digitRun, operandAt, lineAt}
+use Rattle.rules.specs.Reading.{got, digitRun, operandAt, lineAt}
 use Rattle.rules.specs.Programs.{GoodOperand, GoodLine}
 
 -- every operand that the grammar writes is read, and as what was written, before what is no digit

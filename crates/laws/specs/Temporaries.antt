@@ -21,9 +21,9 @@ pub record FitsOperation (o : Operation) : Type 0 where
   pub result : o .result ≤ 15
 
 -- no operation of a line asks for another temporary, as an operand or for its result
-abbrev pub Temporaries-fit : Type 0
-Temporaries-fit = (k : Line) → GoodLine k → length (writtenLine k) ≤ lineLimit → AllOf FitsOperation (sideOperations (k .side))
+abbrev pub TemporariesFit : Type 0
+TemporariesFit = (k : Line) → GoodLine k → length (writtenLine k) ≤ lineLimit → AllOf FitsOperation (sideOperations (k .side))
 
 -- and a line has at most 19 operations
-abbrev pub Operations-few : Type 0
-Operations-few = (k : Line) → GoodLine k → length (writtenLine k) ≤ lineLimit → length (sideOperations (k .side)) ≤ 19
+abbrev pub OperationsFew : Type 0
+OperationsFew = (k : Line) → GoodLine k → length (writtenLine k) ≤ lineLimit → length (sideOperations (k .side)) ≤ 19

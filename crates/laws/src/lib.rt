@@ -1,7 +1,8 @@
 ghost use Rattle.laws.specs.Examples.{Examples};
+ghost use Rattle.laws.specs.Places.{PlacesAreFirst};
 ghost use Rattle.laws.specs.Roundtrip.{OperandsRead, OperandsWritten, LinesRead, LinesWritten};
-ghost use Rattle.laws.specs.Accepted.{Written-accepted, Accepted-written, Text-reads, Read-writes, One-program};
-ghost use Rattle.laws.specs.Temporaries.{Temporaries-fit, Operations-few};
+ghost use Rattle.laws.specs.Accepted.{WrittenAccepted, AcceptedWritten, TextReads, ReadWrites, OneProgram};
+ghost use Rattle.laws.specs.Temporaries.{TemporariesFit, OperationsFew};
 
 // The worked examples hold of the definitions.
 pub fn examples_stand() -> u8
@@ -22,19 +23,26 @@ pub fn reading_undoes_writing() -> u8
 
 // The texts that are accepted are those that write a well-formed program, each one program.
 pub fn acceptance() -> u8
-    ensures written_accepted { λ _. ⌜ Written-accepted ⌝ }
-    ensures accepted_written { λ _. ⌜ Accepted-written ⌝ }
-    ensures text_reads { λ _. ⌜ Text-reads ⌝ }
-    ensures read_writes { λ _. ⌜ Read-writes ⌝ }
-    ensures one_program { λ _. ⌜ One-program ⌝ }
+    ensures written_accepted { λ _. ⌜ WrittenAccepted ⌝ }
+    ensures accepted_written { λ _. ⌜ AcceptedWritten ⌝ }
+    ensures text_reads { λ _. ⌜ TextReads ⌝ }
+    ensures read_writes { λ _. ⌜ ReadWrites ⌝ }
+    ensures one_program { λ _. ⌜ OneProgram ⌝ }
 {
     0
 }
 
 // A line of at most 80 bytes is too short for a temporary past 15 and for more than 19 operations.
 pub fn temporaries_suffice() -> u8
-    ensures fit { λ _. ⌜ Temporaries-fit ⌝ }
-    ensures few { λ _. ⌜ Operations-few ⌝ }
+    ensures fit { λ _. ⌜ TemporariesFit ⌝ }
+    ensures few { λ _. ⌜ OperationsFew ⌝ }
+{
+    0
+}
+
+// The bytes before the place of a refusal begin some line; with what stands at the place they begin none.
+pub fn places_are_first() -> u8
+    ensures { λ _. ⌜ PlacesAreFirst ⌝ }
 {
     0
 }

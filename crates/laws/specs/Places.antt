@@ -1,0 +1,53 @@
+-- What the place of a refusal says of a line.
+use Prim.Native.Nat.{ℕ, suc, _+_, _-_, _<_, _≤_}
+use mathlib.Core.Path.{_≡_}
+use mathlib.Core.Bool.{cond, false}
+use mathlib.Core.List.{List, [], _∷_, _++_}
+use lib.Dec.{eqb}
+use lib.ListN.{length, getD, take, drop}
+use Rattle.rules.specs.declared.refusal.Fault.{Fault}
+use Rattle.rules.specs.declared.refusal.Fault.the-variants.{LineEndMissing, ByteOutOfPlace, BadConstant, NestedTooDeep}
+use Rattle.rules.specs.Tree.{Line}
+use Rattle.rules.specs.Reading.{got, fails, digitRun, proper, depthLimit, lineAt}
+
+-- the place, from 1 on, at which so many bytes are left
+abbrev pub placeAt : List ℕ → ℕ → ℕ
+placeAt xs left = length xs + 1 - left
+
+-- the line end counts as a byte
+abbrev pub ended : List ℕ → List ℕ
+ended xs = xs ++ (10 ∷ [])
+
+abbrev pub countOf : ℕ → List ℕ → ℕ
+countOf b [] = 0
+countOf b (x ∷ xs) = cond (eqb x b) (suc (countOf b xs)) (countOf b xs)
+
+-- how many parentheses are open after these bytes
+abbrev pub openAfter : List ℕ → ℕ
+openAfter xs = countOf 40 xs - countOf 41 xs
+
+-- some line begins with these bytes
+abbrev pub Begins : List ℕ → Type 0
+Begins xs = (suffix : List ℕ) × (k : Line) × (lineAt (xs ++ suffix) ≡ got k [])
+
+-- no line begins with these bytes
+abbrev pub BeginsNone : List ℕ → Type 0
+BeginsNone xs = (suffix : List ℕ) (k : Line) → lineAt (xs ++ suffix) ≡ got k [] → ⊥
+
+-- what stands at a place where a line is refused
+abbrev pub Stands : Fault → List ℕ → ℕ → Type 0
+Stands LineEndMissing xs p = ⊥
+Stands ByteOutOfPlace xs p = BeginsNone (take p (ended xs))
+Stands BadConstant xs p = (0 < digitRun (drop (p - 1) xs)) × (proper (drop (p - 1) xs) ≡ false) × BeginsNone (take (p - 1) xs ++ take (digitRun (drop (p - 1) xs)) (drop (p - 1) xs))
+Stands NestedTooDeep xs p = (getD xs (p - 1) 0 ≡ 40) × (openAfter (take (p - 1) xs) ≡ depthLimit) × BeginsNone (take p (ended xs))
+
+-- the bytes before the place begin some line, and what stands at the place does not let them
+pub record FirstPlace (e : Fault) (xs : List ℕ) (p : ℕ) : Type 0 where
+  pub low : 1 ≤ p
+  pub high : p ≤ length xs + 1
+  pub before : Begins (take (p - 1) (ended xs))
+  pub here : Stands e xs p
+
+-- of the bytes of a line without its line end
+abbrev pub PlacesAreFirst : Type 0
+PlacesAreFirst = (xs : List ℕ) (e : Fault) (left : ℕ) → lineAt xs ≡ fails e left → FirstPlace e xs (placeAt xs left)
