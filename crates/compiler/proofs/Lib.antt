@@ -1,0 +1,9 @@
+mod Cuts
+mod Tables
+mod Lengths
+mod Surveys
+mod Scanned
+mod Keeps
+mod Puts
+mod Rereads
+mod Finish

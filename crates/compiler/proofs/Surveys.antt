@@ -1,0 +1,150 @@
+-- One line of the text, at each way out of the survey, and what the survey then holds.
+use Prim.Native.Nat.{ℕ, suc, _+_, _-_, _<_, _≤_}
+use mathlib.Core.Path.{_≡_, refl, sym, ap, subst, _∙_}
+use mathlib.Core.Logic.{_≢_, _⊎_, inl, inr}
+use mathlib.Core.Bool.{Bool, true, false, cond, not, _||_}
+use mathlib.Core.List.{List, [], _∷_, _++_, reverse, append-assoc, append-nil}
+use native.Mathlib.Omega.{arith}
+use lib.Dec.{eqb, leb}
+use lib.ListN.{length, getD, set, replicate}
+use Rattle.std.proofs.shelf.Lists.{length-set, getD-set-same, getD-set-other, getD-replicate, reverse-append}
+use Rattle.std.proofs.shelf.Tests.{le-leb, lt-leb, eq-eqb, ne-eqb, cases-eq}
+use Rattle.std.specs.declared.option.Option.{Option}
+use Rattle.std.specs.declared.option.Option.the-variants.{Some, None}
+use Rattle.rules.specs.declared.refusal.Report.{Report}
+use Rattle.rules.specs.declared.refusal.Fault.{Fault}
+use Rattle.rules.specs.Refusals.{report, reported, placed}
+use Rattle.rules.specs.declared.operation.Operation.{Operation}
+use Rattle.rules.specs.declared.operation.SideKind as kinds
+use Rattle.rules.specs.declared.operation.SideKind.the-variants.{Pair}
+use Rattle.rules.specs.declared.operation.LineParts.{LineParts}
+use Rattle.rules.specs.Tree.{Side, reading, single, both, Line, Program}
+use Rattle.rules.specs.Reading.{Read, got, fails, lineAt, lineRead}
+use Rattle.rules.specs.Texts.{Text, tail, line, has, awaited, allowed, closes, program, refused, parsedFrom}
+use Rattle.rules.specs.Operations.{lineParts, sideKind, sideOperations, sideCount, firstOver}
+use Rattle.rules.specs.Words.{codeWords}
+use Rattle.laws.proofs.Lines.{lines-written}
+use Rattle.compiler.specs.declared.groups.Groups.{Groups}
+use Rattle.compiler.specs.declared.survey.Survey.{Survey}
+use Rattle.compiler.specs.Counted.{Marks, Counted, lastGroup, overOr}
+use Rattle.compiler.proofs.Lengths.{code-length}
+use Rattle.compiler.proofs.Scanned.{read-short}
+
+pub reverse-onto : (k : Line) (above below : List Line) → reverse (k ∷ above) ++ below ≡ reverse above ++ (k ∷ below)
+reverse-onto k above below = ap (λ (o : List Line). o ++ below) (reverse-append (k ∷ []) above) ∙ append-assoc (reverse above) (k ∷ []) below
+
+-- after the last line end
+pub long-end : (p : List ℕ) (above : List Line) (n : ℕ) → 80 < length p → n ≡ length above → parsedFrom (tail p) above ≡ refused (report 2 (n + 1) 81)
+unfolding parsedFrom
+long-end [] above n h e = absurd (omega arith)
+long-end (x ∷ xs) above n h e = let f : n + 1 ≡ suc (length above) = omega arith in rw (lt-leb (length (x ∷ xs)) 80 h, f)
+
+pub some-end : (p : List ℕ) (above : List Line) (n : ℕ) → 0 < length p → length p ≤ 80 → n ≡ length above → parsedFrom (tail p) above ≡ refused (report 2 (n + 1) (length p + 1))
+unfolding parsedFrom
+some-end [] above n h k e = absurd (omega arith)
+some-end (x ∷ xs) above n h k e =
+    let f : n + 1 ≡ suc (length above) = omega arith in
+    let g : suc (length (x ∷ xs)) ≡ length (x ∷ xs) + 1 = omega arith in
+    rw (le-leb (length (x ∷ xs)) 80 k, f, g)
+
+pub open-end : (p : List ℕ) (above : List Line) (n a : ℕ) → length p ≤ 0 → n ≡ length above → a ≡ awaited above → false ≡ eqb a 0 → parsedFrom (tail p) above ≡ refused (report 6 (n + 1) 0)
+unfolding parsedFrom
+open-end [] above n a h e m f = let g : n + 1 ≡ suc (length above) = omega arith in rw (← m, ← f, g)
+open-end (x ∷ xs) above n a h e m f = absurd (omega arith)
+
+pub closed-end : (p : List ℕ) (above : List Line) (a : ℕ) → length p ≤ 0 → a ≡ awaited above → true ≡ eqb a 0 → parsedFrom (tail p) above ≡ program (reverse above)
+unfolding parsedFrom
+closed-end [] above a h m f = rw (← m, ← f)
+closed-end (x ∷ xs) above a h m f = absurd (omega arith)
+
+-- a line
+pub misread-line : (p : List ℕ) (t : Text) (above : List Line) (n left place : ℕ) (e : Fault) → n ≡ length above → lineRead p ≡ fails e left → place ≡ length p + 1 - left → parsedFrom (line p t) above ≡ refused (reported (placed e (n + 1) place))
+unfolding parsedFrom
+misread-line p t above n left place e h f g = let i : n + 1 ≡ suc (length above) = omega arith in rw (f, g, i)
+
+pub forbidden-line : (p : List ℕ) (t : Text) (above : List Line) (n : ℕ) (k : Line) → n ≡ length above → lineRead p ≡ got k [] → allowed above (k .group) ≡ false → parsedFrom (line p t) above ≡ refused (report 6 (n + 1) 1)
+unfolding parsedFrom
+forbidden-line p t above n k h f g = let i : n + 1 ≡ suc (length above) = omega arith in rw (f, g, i)
+
+pub allowed-line : (p : List ℕ) (t : Text) (above : List Line) (k : Line) → lineRead p ≡ got k [] → allowed above (k .group) ≡ true → parsedFrom (line p t) above ≡ parsedFrom t (k ∷ above)
+unfolding parsedFrom
+allowed-line p t above k f g = rw (f, g)
+
+-- the letter's test, as the code makes it
+abbrev admits : Groups → ℕ → Bool
+admits g k = cond (eqb (g .awaited) 0) (not (getD (g .seen) (k - 65) false)) (eqb k (g .awaited))
+
+pub admits-allowed : (s : Survey) (above : List Line) (g : ℕ) (k : Line) (b : Bool) → Counted s above → 65 ≤ g → g ≤ 90 → g ≡ k .group → b ≡ admits (s .groups) g → allowed above (k .group) ≡ b
+admits-allowed s above g k b c l h e f =
+    let a : admits (s .groups) g ≡ allowed above g = rw (c .next, c .marks .each g l h) in
+    ap (allowed above) (sym e) ∙ sym (f ∙ a)
+
+-- the marks with one line more
+noted : (s : List Bool) (a k : ℕ) → 65 ≤ a → a ≤ 90 → 65 ≤ k → k ≤ 90 → length s ≡ 26 → (b : Bool) → getD s (k - 65) false ≡ b → getD (set s (a - 65) true) (k - 65) false ≡ (eqb a k || b)
+noted s a k a₁ a₂ k₁ k₂ l b e = elim (cases-eq a k) [ inl q ↦ (let h : a - 65 < length s = omega arith in rw (eq-eqb a k q, sym q) (getD-set-same s (a - 65) true false h)) | inr q ↦ (let h : k - 65 ≢ a - 65 = λ z. q (omega arith) in rw (ne-eqb a k q) (getD-set-other s (a - 65) (k - 65) true false h ∙ e)) ]
+
+pub marks-none : (g : Groups) → g .seen ≡ replicate 26 false → Marks g []
+marks-none g e = record { size = rw e; each = λ k a b. rw e (getD-replicate 26 (k - 65) false false (omega arith)) }
+
+marks-more : (g h : Groups) (above : List Line) (l : Line) → 65 ≤ l .group → l .group ≤ 90 → Marks g above → h .seen ≡ set (g .seen) (l .group - 65) true → Marks h (l ∷ above)
+marks-more g h above l a b m s = record { size = rw s (length-set (g .seen) (l .group - 65) true ∙ m .size); each = λ k c d. rw s (noted (g .seen) (l .group) k a b c d (m .size) (has above k) (m .each k c d)) }
+
+over-turn : (k : Line) (below : Program) (o w n o′ w′ m : ℕ) → m ≡ suc n → w′ ≡ w + sideCount (k .side) → o′ ≡ cond (eqb o 0) (cond (leb (w + sideCount (k .side)) 372) 0 m) o → overOr o (firstOver w (suc n) (k ∷ below)) ≡ overOr o′ (firstOver w′ (suc (suc n)) below)
+over-turn k below o w n o′ w′ m e f g = rw (g, f, e) (by (firstOver (w + sideCount (k .side)) (suc (suc n)) below) (eqb o 0) (leb (w + sideCount (k .side)) 372) refl)
+  where
+    by : (x : Option Report) (a b : Bool) → eqb o 0 ≡ a → cond a (cond b x (Some (report 9 (suc n) 0))) (Some (report 9 o 0)) ≡ overOr (cond a (cond b 0 (suc n)) o) x
+    by x true true q = refl
+    by x true false q = let z : eqb (suc n) 0 ≡ false = ne-eqb (suc n) 0 (λ y. omega arith) in rw z
+    by x false b q = rw q
+
+-- what a line's count makes of the survey
+pub record Grown (s s′ : Survey) (k : Line) : Type 0 where
+  pub seen : s′ .groups .seen ≡ set (s .groups .seen) (k .group - 65) true
+  pub awaited : s′ .groups .awaited ≡ cond (closes (k .target)) 0 (k .group)
+  pub lines : s′ .lines ≡ s .lines + 1
+  pub instructions : s′ .instructions ≡ s .instructions + sideCount (k .side)
+  pub heads : s′ .heads ≡ s .heads + cond (eqb (k .group) (s .last)) 0 1
+  pub over : s′ .over ≡ cond (eqb (s .over) 0) (cond (leb (s .instructions + sideCount (k .side)) 372) 0 (s .lines + 1)) (s .over)
+  pub last : s′ .last ≡ k .group
+
+pub counted-more : (s s′ : Survey) (above : List Line) (k : Line) → 65 ≤ k .group → k .group ≤ 90 → Counted s above → Grown s s′ k → Counted s′ (k ∷ above)
+counted-more s s′ above k a b c g =
+    record {
+      marks = marks-more (s .groups) (s′ .groups) above k a b (c .marks) (g .seen);
+      next = g .awaited;
+      lines = omega (arith, c .lines, g .lines);
+      last = g .last;
+      over = λ below. ap (firstOver 0 1) (reverse-onto k above below) ∙ (c .over (k ∷ below) ∙ over-turn k below (s .over) (s .instructions) (length above) (s′ .over) (s′ .instructions) (s .lines + 1) (omega (arith, c .lines)) (g .instructions) (g .over));
+      words = λ cs below. ap (λ (o : Program). length (codeWords cs 0 o)) (reverse-onto k above below) ∙ (c .words cs (k ∷ below) ∙ (let h : cond {A = ℕ} (eqb (k .group) (s .last)) 0 1 ≡ cond (eqb (k .group) (lastGroup above)) 0 1 = ap (λ (o : ℕ). cond (eqb (k .group) o) 0 1) (c .last) in omega (arith, code-length cs (lastGroup above) k below, g .heads, g .instructions)));
+    }
+
+-- a line that was read has a letter for its group
+pub group-letter : (p : List ℕ) (q : LineParts) (l : Line) → lineRead p ≡ got l [] → q ≡ lineParts l → (65 ≤ q .group) × (q .group ≤ 90)
+group-letter p q l e f =
+    let w = lines-written p [] l (read-short p [] l e .1) .0 .group in
+    let g : q .group ≡ l .group = ap (λ (o : LineParts). o .group) f in
+    (omega (arith, w .0), omega (arith, w .1))
+
+-- what the code does with the parts of a line is what is to be done with the line
+pub grown : (s s′ : Survey) (q : LineParts) (l : Line) (n : ℕ) → q ≡ lineParts l → n ≡ sideCount (l .side) → s′ .groups .seen ≡ set (s .groups .seen) (q .group - 65) true → s′ .groups .awaited ≡ cond (closes (q .target)) 0 (q .group) → s′ .lines ≡ s .lines + 1 → s′ .instructions ≡ s .instructions + n → s′ .heads ≡ s .heads + cond (eqb (q .group) (s .last)) 0 1 → s′ .over ≡ cond (eqb (s .over) 0) (cond (leb (s .instructions + n) 372) 0 (s .lines + 1)) (s .over) → s′ .last ≡ q .group → Grown s s′ l
+grown s s′ q l n e f a b c d h o z =
+    record {
+      seen = a ∙ ap (λ (k : LineParts). set (s .groups .seen) (k .group - 65) true) e;
+      awaited = b ∙ ap (λ (k : LineParts). cond (closes (k .target)) 0 (k .group)) e;
+      lines = c;
+      instructions = d ∙ ap (λ (k : ℕ). s .instructions + k) f;
+      heads = h ∙ ap (λ (k : LineParts). s .heads + cond (eqb (k .group) (s .last)) 0 1) e;
+      over = o ∙ ap (λ (k : ℕ). cond (eqb (s .over) 0) (cond (leb (s .instructions + k) 372) 0 (s .lines + 1)) (s .over)) f;
+      last = z ∙ ap (λ (k : LineParts). k .group) e;
+    }
+
+-- the instructions of a line
+pub pair-count : (s : Side) (d : kinds.SideKind) (os : List Operation) (n : ℕ) → d ≡ sideKind s → d ≡ Pair → os ≡ sideOperations s → n ≡ length os → n ≡ sideCount s
+pair-count reading d os n a b e f = let z : _≡_ {A = ℕ} 0 1 = cc in absurd (omega arith)
+pair-count (single x) d os n a b e f = let z : _≡_ {A = ℕ} 0 1 = cc in absurd (omega arith)
+pair-count (both l s r) d os n a b e f = f ∙ ap length e
+
+pub one-count : (s : Side) (d : kinds.SideKind) → d ≡ sideKind s → (d ≡ Pair → ⊥) → 1 ≡ sideCount s
+one-count reading d a b = refl
+one-count (single x) d a b = refl
+one-count (both l s r) d a b = absurd (b a)

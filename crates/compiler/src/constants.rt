@@ -1,0 +1,9 @@
+ghost use Prim.Native.Nat.{_≤_};
+
+// The different constants in order of first appearance, as many as there are cells for them.
+#[derive(Drop)]
+pub(crate) struct Constants {
+    pub(crate) items: [u64; 46],
+    pub(crate) len: usize,
+    ghost fits: { len ≤ 46 },
+}

@@ -1,0 +1,16 @@
+// A formula text to its tape.
+mod compiling;
+mod constants;
+mod cutting;
+mod groups;
+mod inventory;
+mod marking;
+mod noting;
+mod plan;
+mod survey;
+mod surveying;
+mod taking;
+mod words;
+mod writing;
+
+pub use compiling::compile;

@@ -1,0 +1,4 @@
+pub mod Tens
+pub mod Operands
+pub mod Emits
+pub mod Sides

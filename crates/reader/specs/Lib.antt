@@ -1,0 +1,4 @@
+pub mod Held
+pub mod Told
+pub mod Pairs
+pub mod Sides
