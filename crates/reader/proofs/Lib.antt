@@ -1,4 +1,5 @@
 pub mod Tens
+pub mod Within
 pub mod Operands
 pub mod Emits
 pub mod Sides

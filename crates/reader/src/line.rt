@@ -127,7 +127,7 @@ pub fn read_line(text: &[u8]) -> Result<ReadLine, Misread>
         Ok(parts) => Ok(ReadLine { parts, operations }),
         Err(e) => Err(Misread {
             fault: e.fault,
-            place: (text.len() + 1).saturating_sub(e.left),
+            place: text.len() + 1 - e.left,
         }),
     }
 }

@@ -7,6 +7,7 @@ use lib.ListN.{length, length-take, length-drop}
 use Rattle.std.proofs.shelf.Results.{err-from-errBy}
 use Rattle.rules.specs.declared.formula.Atom.the-variants.{Variable, Pointed, Letter, Constant}
 use Rattle.rules.specs.Tree.{atom}
+use Rattle.reader.specs.Held.{held}
 use Rattle.reader.proofs.Emits.{adds, second-pair, spent-on}
 use Rattle.reader.proofs.Operands.{none-fails, opens-none, opens-fails, opens-unclosed, opens, variable-is, letter-is, points, points-fails, constant-is, constant-fails, other-fails, digit-some}
 use Rattle.reader.proofs.pairs.+operand+pair+second.Needs as need
@@ -72,7 +73,7 @@ second-returns t c =
     let s = c .in-Continue-sign .ensures tt .reads in
     let r = c .in-Continue-right .ensures tt .reads in
     record {
-      reads = ((c .in-Continue-sign .sign, r .0), rw (s, r .1), adds _ _ _ (c .args .left) _ (r .0) _ (c .args .waiting) (c .waiting-after .result) (r .3) (c .push .ensures .held) (r .2) (c .waiting-after .ensures .is));
+      reads = ((c .in-Continue-sign .sign, r .0), rw (s, r .1), adds (held (c .args .out .now)) (held (c .operand .last .out)) (held (c .push .last .self)) (c .args .left) (c .in-Continue-right .right) (r .0) (c .in-Continue-sign .sign) (c .args .waiting) (c .waiting-after .result) (r .3) (c .push .ensures .held) (r .2) (c .waiting-after .ensures .is));
       spent = omega (arith, c .push .ensures .len, c .in-Continue-sign .ensures tt .rest, c .in-Continue-right .ensures tt .spent);
     }
 
