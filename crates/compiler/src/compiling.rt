@@ -7,9 +7,8 @@ use crate::plan::Plan;
 use crate::surveying::survey;
 use crate::taking::take_inventory;
 use crate::writing::put_tape;
+use rules::limits::TEXT_LIMIT;
 use rules::refusal::TextRefusal;
-
-const TEXT_LIMIT: usize = 16_384;
 
 // Judges a text: every refusal but that of a short buffer, in their order.
 fn plan_of(text: &[u8]) -> Result<Plan, TextRefusal>

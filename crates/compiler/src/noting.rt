@@ -7,13 +7,14 @@ ghost use lib.ListN.{length};
 ghost use Rattle.rules.specs.Mentions.{placeOf, noted};
 ghost use Rattle.compiler.specs.Held.{table};
 use crate::constants::Constants;
+use rules::limits::CONSTANT_LIMIT;
 
 impl Constants {
     pub(crate) fn new() -> Constants
         ensures { λ r. ⌜ table r ≡ [] ⌝ }
     {
         Constants {
-            items: [0; 46],
+            items: [0; CONSTANT_LIMIT],
             len: 0,
         }
     }
@@ -49,7 +50,7 @@ impl Constants {
         if self.place(number) < len {
             return true;
         }
-        if len == 46 {
+        if len == CONSTANT_LIMIT {
             return false;
         }
         self.items[len] = number;

@@ -15,12 +15,10 @@ use crate::groups::Groups;
 use crate::survey::Survey;
 use reader::line::ReadLine;
 use reader::line::read_line;
+use rules::limits::INSTRUCTION_LIMIT;
+use rules::limits::LINE_LIMIT;
 use rules::operation::SideKind;
 use rules::refusal::TextRefusal;
-
-const LINE_LIMIT: usize = 80;
-
-const INSTRUCTION_LIMIT: usize = 372;
 
 impl Survey {
     fn new() -> Survey

@@ -12,8 +12,8 @@ returns-then-place-len c =
     let e = noted-there (table (c .args .self .now)) (c .args .number) (omega arith) in
     record { took = rw e (takes (table (c .args .self .now)) (omega arith)); held = sym e }
 
-pub returns-then-len-eq46 : need.returns-then-len-eq46
-returns-then-len-eq46 c =
+pub returns-then-len-eq-CONSTANT-LIMIT : need.returns-then-len-eq-CONSTANT-LIMIT
+returns-then-len-eq-CONSTANT-LIMIT c =
     let n = ap length (c .as-slice-len .ensures .value) in
     record { took = is-full (table (c .args .self .now)) (c .args .number) (omega arith) (omega arith); held = refl }
 
