@@ -1,5 +1,5 @@
 ghost use mathlib.Core.Path.{_≡_};
-ghost use Rattle.rules.specs.Refusals.{reported, placed};
+ghost use Rattle.rules.specs.Refusals.{report, reported, placed};
 use crate::refusal::Fault;
 use crate::refusal::Report;
 use crate::refusal::TextRefusal;
@@ -18,61 +18,34 @@ impl Fault {
     }
 }
 
+impl Report {
+    fn new(number: u8, line: usize, place: usize) -> Report
+        ensures { λ r. ⌜ r ≡ report number line place ⌝ }
+    {
+        Report {
+            number,
+            line,
+            place,
+        }
+    }
+}
+
 impl TextRefusal {
+    // The refusal's number, line and place.
     pub fn report(self) -> Report
         ensures { λ r. ⌜ r ≡ reported self ⌝ }
     {
         match self {
-            TextRefusal::TextTooLong => Report {
-                number: 1,
-                line: 0,
-                place: 0,
-            },
-            TextRefusal::LineEndMissing { line, place } => Report {
-                number: 2,
-                line,
-                place,
-            },
-            TextRefusal::ByteOutOfPlace { line, place } => Report {
-                number: 3,
-                line,
-                place,
-            },
-            TextRefusal::BadConstant { line, place } => Report {
-                number: 4,
-                line,
-                place,
-            },
-            TextRefusal::NestedTooDeep { line, place } => Report {
-                number: 5,
-                line,
-                place,
-            },
-            TextRefusal::GroupOutOfPlace { line, place } => Report {
-                number: 6,
-                line,
-                place,
-            },
-            TextRefusal::LetterWithoutGroup { line, place } => Report {
-                number: 7,
-                line,
-                place,
-            },
-            TextRefusal::TooManyConstants { line, place } => Report {
-                number: 8,
-                line,
-                place,
-            },
-            TextRefusal::TooManyInstructions { line } => Report {
-                number: 9,
-                line,
-                place: 0,
-            },
-            TextRefusal::TapeTooShort => Report {
-                number: 10,
-                line: 0,
-                place: 0,
-            },
+            TextRefusal::TextTooLong => Report::new(1, 0, 0),
+            TextRefusal::LineEndMissing { line, place } => Report::new(2, line, place),
+            TextRefusal::ByteOutOfPlace { line, place } => Report::new(3, line, place),
+            TextRefusal::BadConstant { line, place } => Report::new(4, line, place),
+            TextRefusal::NestedTooDeep { line, place } => Report::new(5, line, place),
+            TextRefusal::GroupOutOfPlace { line, place } => Report::new(6, line, place),
+            TextRefusal::LetterWithoutGroup { line, place } => Report::new(7, line, place),
+            TextRefusal::TooManyConstants { line, place } => Report::new(8, line, place),
+            TextRefusal::TooManyInstructions { line } => Report::new(9, line, 0),
+            TextRefusal::TapeTooShort => Report::new(10, 0, 0),
         }
     }
 }
