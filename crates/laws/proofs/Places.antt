@@ -583,7 +583,7 @@ byte-here [] d = refl
 byte-here (x ∷ c) d = byte-here c d
 
 none : (e : Fault) (c ts : List ℕ) → ((zs : List ℕ) → lineAt (c ++ (ts ++ zs)) ≡ fails e (length (ts ++ zs))) → BeginsNone (c ++ ts)
-none e c ts g suffix k q = never (sym q ∙ (ap lineAt (append-assoc c ts suffix) ∙ g suffix))
+none e c ts g suffix k f q = never (sym (ap lineAt q ∙ lines-read k f) ∙ (ap lineAt (append-assoc c ts suffix) ∙ g suffix))
 
 stands : (e : Fault) (c d xs : List ℕ) (p : ℕ) → xs ≡ c ++ d → p ≡ suc (length c) → p - 1 ≡ length c → Why depthLimit e c d → ((zs : List ℕ) → lineAt (c ++ (token e d ++ zs)) ≡ fails e (length (token e d ++ zs))) → Stands e xs p
 stands LineEndMissing c d xs p s i j y g = y
@@ -606,7 +606,7 @@ places-are-first xs e left q =
     let i : placeAt xs left ≡ suc (length (u .c)) = omega arith in
     let j : placeAt xs left - 1 ≡ length (u .c) = omega arith in
     let t : take (placeAt xs left - 1) (ended xs) ≡ u .c = before-is (u .c) (u .d) xs (placeAt xs left) (u .split) j in
-    let b : Begins (u .c) = (u .more, u .fit .0, ap lineAt (u .fit .2) ∙ lines-read (u .fit .0) (u .fit .1)) in
+    let b : Begins (u .c) = (u .more, u .fit .0, u .fit .1, u .fit .2) in
     record {
       low = omega arith;
       high = omega arith;

@@ -8,7 +8,9 @@ use lib.ListN.{length, getD, take, drop}
 use Rattle.rules.specs.declared.refusal.Fault.{Fault}
 use Rattle.rules.specs.declared.refusal.Fault.the-variants.{LineEndMissing, ByteOutOfPlace, BadConstant, NestedTooDeep}
 use Rattle.rules.specs.Tree.{Line}
-use Rattle.rules.specs.Reading.{got, fails, digitRun, proper, depthLimit, lineAt}
+use Rattle.rules.specs.Written.{writtenLine}
+use Rattle.rules.specs.Reading.{fails, digitRun, proper, depthLimit, lineAt}
+use Rattle.rules.specs.Programs.{GoodLine}
 
 -- the place, from 1 on, at which so many bytes are left
 abbrev pub placeAt : List ℕ → ℕ → ℕ
@@ -26,13 +28,13 @@ countOf b (x ∷ xs) = cond (eqb x b) (suc (countOf b xs)) (countOf b xs)
 abbrev pub openAfter : List ℕ → ℕ
 openAfter xs = countOf 40 xs - countOf 41 xs
 
--- some line begins with these bytes
+-- some line is written with these bytes first
 abbrev pub Begins : List ℕ → Type 0
-Begins xs = (suffix : List ℕ) × (k : Line) × (lineAt (xs ++ suffix) ≡ got k [])
+Begins xs = (suffix : List ℕ) × (k : Line) × GoodLine k × (xs ++ suffix ≡ writtenLine k)
 
--- no line begins with these bytes
+-- no line is written with these bytes first
 abbrev pub BeginsNone : List ℕ → Type 0
-BeginsNone xs = (suffix : List ℕ) (k : Line) → lineAt (xs ++ suffix) ≡ got k [] → ⊥
+BeginsNone xs = (suffix : List ℕ) (k : Line) → GoodLine k → xs ++ suffix ≡ writtenLine k → ⊥
 
 -- what stands at a place where a line is refused
 abbrev pub Stands : Fault → List ℕ → ℕ → Type 0

@@ -2,7 +2,7 @@ ghost use mathlib.Core.Path.{_≡_};
 ghost use Prim.Native.Nat.{_+_, _*_, _≤_};
 ghost use lib.ListN.{length};
 ghost use Rattle.rules.specs.Reading.{openingAt, sideAt, targetAt, lineAt, lineRead};
-ghost use Rattle.reader.specs.Told.{Reads, Told};
+ghost use Rattle.reader.specs.Told.{Reads, Told, First};
 ghost use Rattle.reader.specs.Sides.{alone as aloneOf, SideRead, PartsRead};
 use crate::bytes::byte;
 use crate::bytes::is_letter;
@@ -16,16 +16,12 @@ use crate::pairs::second;
 use rules::formula::Atom;
 use rules::formula::Start;
 use rules::formula::Target;
+use rules::limits::DEPTH_LIMIT;
+use rules::limits::LINE_LIMIT;
 use rules::operation::LineParts;
 use rules::operation::SideKind;
 use rules::operation::Source;
 use rules::refusal::Fault;
-
-// How many bytes may stand before a line end.
-const LINE_LIMIT: usize = 80;
-
-// How many parentheses may be open at once.
-const DEPTH_LIMIT: u8 = 16;
 
 // A line that was read.
 #[derive(Drop)]
@@ -112,9 +108,11 @@ fn parts(text: &[u8], out: &mut Operations) -> Result<LineParts, Failure>
     })
 }
 
-// Reads one line, its line end left out.
+// Reads one line, its line end left out. Where it fails, the bytes before the place begin some line, and with what stands
+// at the place they begin none.
 pub fn read_line(text: &[u8]) -> Result<ReadLine, Misread>
-    ensures { λ r. ⌜ Told (length (now (text .entry))) (lineRead (now (text .entry))) r ⌝ }
+    ensures told { λ r. ⌜ Told (length (now (text .entry))) (lineRead (now (text .entry))) r ⌝ }
+    ensures first { λ r. ⌜ First (now (text .entry)) r ⌝ }
 {
     if text.len() > LINE_LIMIT {
         return Err(Misread {

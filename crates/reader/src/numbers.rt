@@ -5,6 +5,7 @@ ghost use Rattle.std.specs.Vec.{made};
 ghost use Rattle.rules.specs.Reading.{isDigit, digitRun, Digits, numberOf, constantAt};
 ghost use Rattle.reader.specs.Told.{Reads};
 use crate::failure::Failure;
+use rules::limits::DIGIT_LIMIT;
 use rules::refusal::Fault;
 
 pub fn is_digit(b: u8) -> bool
@@ -44,7 +45,7 @@ pub fn constant(text: &[u8]) -> Result<(u64, &[u8]), Failure>
     ensures rest { λ r. ⌜ made r (λ p. length (now (p .1)) + digitRun (now (text .entry)) ≡ length (now (text .entry))) ⌝ }
 {
     let run = digit_run(text);
-    if run > 14 || run > 1 && text[0] == b'0' {
+    if run > DIGIT_LIMIT || run > 1 && text[0] == b'0' {
         return Err(Failure {
             fault: Fault::BadConstant,
             left: text.len(),

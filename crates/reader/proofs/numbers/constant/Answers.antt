@@ -5,7 +5,7 @@ use lib.ListN.{take}
 use Rattle.std.proofs.shelf.Sums.{leading-le-length}
 use Rattle.std.proofs.shelf.Ways.{tells}
 use Rattle.rules.specs.Reading.{isDigit, digitRun, proper}
-use Rattle.reader.proofs.Tens.{digits-front, proper-is}
+use Rattle.laws.proofs.Digits.{digits-front, proper-is}
 use Rattle.reader.proofs.numbers.constant.Needs as need
 
 pub index-text-0 : need.index-text-0

@@ -6,24 +6,24 @@ use Rattle.compiler.proofs.survey.Survey.add.Needs as need
 
 pub returns-in-Err : need.returns-in-Err
 returns-in-Err c =
-    let f = c .in-Err .ensures tt in
+    let f = c .in-Err .ensures tt .told in
     record { reads = λ above t k. rw (c .at .ensures) (misread-line (c .args .bytes .now) t above _ (f .0) _ _ (k .lines) (f .1) (f .2)); lines = tt }
 
 pub admits-requires : need.admits-requires
-admits-requires c κs = let f = c .in-Ok .ensures tt in group-letter (c .args .bytes .now) _ (f .0) (f .1) (f .2)
+admits-requires c κs = let f = c .in-Ok .ensures tt .told in group-letter (c .args .bytes .now) _ (f .0) (f .1) (f .2)
 
 pub note-requires : need.note-requires
-note-requires c κs = let f = c .in-Ok .ensures tt in group-letter (c .args .bytes .now) _ (f .0) (f .1) (f .2)
+note-requires c κs = let f = c .in-Ok .ensures tt .told in group-letter (c .args .bytes .now) _ (f .0) (f .1) (f .2)
 
 pub returns-then-not-admits : need.returns-then-not-admits
 returns-then-not-admits c =
-    let f = c .in-Ok .ensures tt in
+    let f = c .in-Ok .ensures tt .told in
     let g = group-letter (c .args .bytes .now) _ (f .0) (f .1) (f .2) in
     record { reads = λ above t k. forbidden-line (c .args .bytes .now) t above _ (f .0) (k .lines) (f .1) (admits-allowed (c .args .self .now) above _ (f .0) _ k (g .0) (g .1) (ap (λ (o : LineParts). o .group) (f .2)) (c .if-not-admits .ensures tt)); lines = tt }
 
 pub returns : need.returns
 returns c =
-    let f = c .in-Ok .ensures tt in
+    let f = c .in-Ok .ensures tt .told in
     let g = group-letter (c .args .bytes .now) _ (f .0) (f .1) (f .2) in
     let w = group-letter (c .args .bytes .now) _ (f .0) (f .1) refl in
     record {
