@@ -1,6 +1,74 @@
+ghost use mathlib.Core.Path.{_≡_};
+ghost use mathlib.Core.Bool.{Bool, true, false, cond, not};
+ghost use Prim.Native.Nat.{ℕ, _-_, _≤_};
+ghost use lib.Dec.{eqb};
+ghost use lib.ListN.{getD, set, replicate};
+ghost use Rattle.rules.specs.Reading.{between};
+ghost use Rattle.rules.specs.Texts.{closes as closesOf};
+use rules::formula::Target;
+
 // The letters that have a group, and the only letter that may come next, 0 where any new one may.
 #[derive(Drop)]
 pub(crate) struct Groups {
     pub(crate) seen: [bool; 26],
     pub(crate) awaited: u8,
+}
+
+impl Groups {
+    pub(crate) fn new() -> Groups
+        ensures { λ r. ⌜ (r .seen ≡ replicate 26 false) × (r .awaited ≡ 65) ⌝ }
+    {
+        Groups {
+            seen: [false; 26],
+            awaited: b'A',
+        }
+    }
+
+    fn has(&self, letter: u8) -> bool
+        requires { ⌜ (65 ≤ letter) × (letter ≤ 90) ⌝ }
+        ensures { λ r. ⌜ r ≡ getD (now (self .entry) .seen) (letter - 65) false ⌝ }
+    {
+        self.seen[(letter - b'A') as usize]
+    }
+
+    // Whether the byte is a letter without group.
+    pub(crate) fn lacks(&self, byte: u8) -> bool
+        ensures { λ r. ⌜ r ≡ cond (between 65 90 byte) (not (getD (now (self .entry) .seen) (byte - 65) false)) false ⌝ }
+    {
+        if byte < b'A' || byte > b'Z' {
+            false
+        } else {
+            !self.has(byte)
+        }
+    }
+
+    pub(crate) fn all_closed(&self) -> bool
+        ensures { λ r. ⌜ r ≡ eqb (now (self .entry) .awaited) 0 ⌝ }
+    {
+        self.awaited == 0
+    }
+
+    // Whether a line of this group may come next.
+    pub(crate) fn admits(&self, letter: u8) -> bool
+        requires { ⌜ (65 ≤ letter) × (letter ≤ 90) ⌝ }
+        ensures { λ r. ⌜ r ≡ cond (eqb (now (self .entry) .awaited) 0) (not (getD (now (self .entry) .seen) (letter - 65) false)) (eqb letter (now (self .entry) .awaited)) ⌝ }
+    {
+        if self.awaited == 0 {
+            !self.has(letter)
+        } else {
+            letter == self.awaited
+        }
+    }
+
+    pub(crate) fn note(&mut self, letter: u8, target: Target)
+        requires { ⌜ (65 ≤ letter) × (letter ≤ 90) ⌝ }
+        ensures seen { λ _. ⌜ now (self .exit) .seen ≡ set (now (self .entry) .seen) (letter - 65) true ⌝ }
+        ensures awaited { λ _. ⌜ now (self .exit) .awaited ≡ cond (closesOf target) 0 letter ⌝ }
+    {
+        self.seen[(letter - b'A') as usize] = true;
+        self.awaited = match target {
+            Target::Place => 0,
+            _ => letter,
+        };
+    }
 }

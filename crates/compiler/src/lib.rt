@@ -4,12 +4,10 @@ mod constants;
 mod cutting;
 mod groups;
 mod inventory;
-mod marking;
 mod noting;
 mod plan;
 mod survey;
 mod surveying;
-mod taking;
 mod words;
 mod writing;
 

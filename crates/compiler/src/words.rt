@@ -12,7 +12,6 @@ ghost use Rattle.compiler.specs.Put.{Wrote};
 use crate::constants::Constants;
 use reader::line::ReadLine;
 use rules::cells::CONSTANTS;
-use rules::cells::HEAD_MARK;
 use rules::cells::LABEL;
 use rules::cells::LETTERS;
 use rules::cells::PLACE_REGISTER;
@@ -26,6 +25,7 @@ use rules::operation::Operation;
 use rules::operation::SideKind;
 use rules::operation::Source;
 use rules::table::transfer;
+use rules::tape::HEAD_MARK;
 
 // The fourteen digits of a word.
 pub(crate) fn word(left: u64, code: u8, right: u64, result: u64) -> u64

@@ -14,10 +14,8 @@ use crate::words::put_line;
 use crate::words::word;
 use reader::line::read_line;
 use rules::cells::CONSTANTS;
-
-const CONSTANT_CODE: u8 = 11;
-
-const END_WORD: u64 = 0;
+use rules::tape::CONSTANT_CODE;
+use rules::tape::END_WORD;
 
 // Writes each constant's word and number.
 fn put_constants(constants: &Constants, tape: &mut [u64]) -> usize

@@ -34,9 +34,13 @@ sideWords cs er (both l s r) = operationWords cs er (sideOperations (both l s r)
 abbrev pub lineWords : List ℕ → Line → List ℕ
 lineWords cs k = sideWords cs (targetAddress (k .target)) (k .side)
 
--- a group's head names the cell of its letter; 0999 is the mark of a head
+-- the second operand that marks a head: no operand has this address
+abbrev pub headMark : ℕ
+headMark = 999
+
+-- a group's head names the cell of its letter
 abbrev pub headWord : ℕ → ℕ
-headWord g = word 0 transferCode 999 (letterCell g)
+headWord g = word 0 transferCode headMark (letterCell g)
 
 -- a group begins where the letter is not that of the line above
 abbrev pub headIf : ℕ → ℕ → List ℕ
@@ -47,11 +51,18 @@ abbrev pub codeWords : List ℕ → ℕ → Program → List ℕ
 codeWords cs above [] = []
 codeWords cs above (k ∷ ks) = headIf above (k .group) ++ (lineWords cs k ++ codeWords cs (k .group) ks)
 
+-- the code of a word that a constant follows
+abbrev pub constantCode : ℕ
+constantCode = 11
+
+abbrev pub endWord : ℕ
+endWord = 0
+
 -- for each constant, the i-th on, the word that names its cell and then the number
 abbrev pub constantWords : ℕ → List ℕ → List ℕ
 constantWords i [] = []
-constantWords i (n ∷ ns) = word 0 11 0 (constantCell i) ∷ (n ∷ constantWords (suc i) ns)
+constantWords i (n ∷ ns) = word 0 constantCode 0 (constantCell i) ∷ (n ∷ constantWords (suc i) ns)
 
--- constants, groups, the end word 0
+-- constants, groups, the end word
 unfoldable pub tapeOf : List ℕ → Program → List ℕ
-tapeOf cs ks = constantWords 0 cs ++ (codeWords cs 0 ks ++ (0 ∷ []))
+tapeOf cs ks = constantWords 0 cs ++ (codeWords cs 0 ks ++ (endWord ∷ []))

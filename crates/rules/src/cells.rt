@@ -13,6 +13,4 @@ pub const CONSTANTS: u64 = 54;
 
 pub const TEMPORARIES: u64 = 500;
 
-pub const HEAD_MARK: u64 = 999;
-
 pub const POINTED: u64 = 1000;

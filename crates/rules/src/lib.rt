@@ -7,3 +7,4 @@ pub mod refusal;
 pub mod reports;
 pub mod sign;
 pub mod table;
+pub mod tape;

@@ -7,7 +7,7 @@ use Rattle.rules.specs.Mentions.{programMentions, firstLoose}
 use Rattle.compiler.specs.Counted.{Marks}
 use Rattle.compiler.specs.Lines.{readLines, Readable}
 use Rattle.compiler.specs.Kept.{kept, tallied, start}
-use Rattle.compiler.proofs.taking.take_inventory.Given as given
+use Rattle.compiler.proofs.inventory.take_inventory.Given as given
 
 -- going on from here gives what going from the start gives
 abbrev pub Inv-loop-bytes : given.InvT-loop-bytes

@@ -14,7 +14,7 @@ use Rattle.compiler.specs.Scan.{scan}
 use Rattle.compiler.specs.Kept.{Kept, kept, tallied, start}
 use Rattle.compiler.proofs.Keeps.{tallied-append, loose-on, loose-stays}
 use Rattle.compiler.proofs.Rereads.{readable-parts, parts-short, lines-tail, mentions-line}
-use Rattle.compiler.proofs.taking.take_inventory.Needs as need
+use Rattle.compiler.proofs.inventory.take_inventory.Needs as need
 
 pub loop-bytes-holds : need.loop-bytes-holds
 loop-bytes-holds c = (c .pre .reads, ap (tallied (programMentions 1 (readLines (cut (c .args .text .now))))) (sym (c .new-inventory .ensures)), (λ ks m. refl), omega (arith, c .pre .short))
