@@ -1,4 +1,7 @@
 -- The whole text: the order of the refusals, and how long its tape is.
+-- The first reading gives the program, the inventory its letters and constants, the counts its length; the definition asks for
+-- them in the same order as the code, so each way out of the code is one rewriting of the definition. That an accepted text
+-- writes a well-formed program is the law of acceptance, put to use on the answer.
 use Prim.Native.Nat.{ℕ, suc, _+_, _-_, _*_, _<_, _≤_}
 use mathlib.Core.Path.{_≡_, refl, sym, ap, subst, _∙_}
 use mathlib.Core.Bool.{Bool, true, false, cond, _||_}

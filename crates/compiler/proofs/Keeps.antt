@@ -1,4 +1,6 @@
 -- What the inventory makes of each letter and constant.
+-- It meets the mentions one after another, so meeting two lists in turn is meeting them joined. Once a constant found no place
+-- nothing changes any more, and a letter never changes the constants: so the first refusal stays the first.
 use Prim.Native.Nat.{ℕ, suc, _+_, _-_, _<_, _≤_}
 use mathlib.Core.Path.{_≡_, refl, sym, ap, _∙_}
 use mathlib.Core.Bool.{Bool, true, false, cond, not}

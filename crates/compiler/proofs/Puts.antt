@@ -1,4 +1,6 @@
 -- One word more on the tape, and one part of it after another.
+-- What is written so far, followed by what is still to be written, is always the whole: a step moves one word from the second
+-- part to the first. From the place reached on, the buffer is as it was.
 use Prim.Native.Nat.{ℕ, suc, _+_, _*_, _<_, _≤_}
 use mathlib.Core.Path.{_≡_, refl, sym, ap, subst, _∙_}
 use mathlib.Core.List.{List, [], _∷_, _++_, append-assoc, append-nil}

@@ -1,4 +1,5 @@
 -- Reading the lines again: what is left of the text gives what is left to do.
+-- The first reading showed that each line can be read, so cutting off one line takes one line off the program.
 use Prim.Native.Nat.{ℕ, suc, _+_, _≤_}
 use mathlib.Core.Path.{_≡_, refl, sym, ap, subst, _∙_}
 use mathlib.Core.Bool.{false}

@@ -1,4 +1,6 @@
 -- One line of the text, at each way out of the survey, and what the survey then holds.
+-- The two counts, of instructions and of words, are facts about any lines below: reading one line more only uses such a fact
+-- at that line put before the others. So nothing has to be said of a list that grows at its end.
 use Prim.Native.Nat.{ℕ, suc, _+_, _-_, _<_, _≤_}
 use mathlib.Core.Path.{_≡_, refl, sym, ap, subst, _∙_}
 use mathlib.Core.Logic.{_≢_, _⊎_, inl, inr}
