@@ -28,7 +28,8 @@ use Rattle.rules.specs.Words.{codeWords, tapeOf}
 use Rattle.rules.specs.Compiled.{Outcome, tape, refuse, judged, onParsed, compiled, told, answered, buffered}
 use Rattle.rules.specs.Written.{writtenText}
 use Rattle.rules.specs.Programs.{WellFormed}
-use Rattle.laws.proofs.Lines.{lines-written}
+use Rattle.laws.proofs.Lines.{lines-written, read-short}
+use Rattle.laws.proofs.Parsing.{same-program, reverse-onto}
 use Rattle.laws.proofs.Accepting.{accepted-written, written-accepted}
 use Rattle.compiler.specs.declared.survey.Survey.{Survey}
 use Rattle.compiler.specs.declared.inventory.Inventory.{Inventory}
@@ -40,18 +41,13 @@ use Rattle.compiler.specs.Put.{Wrote}
 use Rattle.compiler.specs.Meant.{Written, Meant}
 use Rattle.compiler.proofs.Keeps.{tallied-is}
 use Rattle.compiler.proofs.Lengths.{tape-length}
-use Rattle.compiler.proofs.Scanned.{read-short}
-use Rattle.compiler.proofs.Surveys.{reverse-onto}
 
 -- a text that is read is readable, and what was read are its lines
-program-same : {ks ls : Program} → program ks ≡ program ls → ks ≡ ls
-program-same e = cc
-
 only-line : (p rest : List ℕ) (k : Line) → lineRead p ≡ got k rest → lineRead p ≡ got k []
 only-line p rest k e = let w = lines-written p rest k (read-short p rest k e .1) in e ∙ ap (got k) (w .2)
 
 closes-at : (b : Bool) (above ks : Program) (n : ℕ) → cond b (program (reverse above)) (refused (report 6 n 0)) ≡ program ks → ks ≡ reverse above
-closes-at true above ks n e = sym (program-same e)
+closes-at true above ks n e = sym (same-program e)
 closes-at false above ks n e = let z : _≡_ {A = ℕ} 0 1 = cc in absurd (omega arith)
 
 abbrev Its : Text → Program → Program → Type 0

@@ -13,7 +13,8 @@ use Rattle.rules.specs.Texts.{Text, tail, line}
 use Rattle.rules.specs.Mentions.{Mention, programMentions}
 use Rattle.compiler.specs.Lines.{readLines, Readable}
 use Rattle.compiler.specs.Scan.{scan}
-use Rattle.compiler.proofs.Scanned.{read-short, line-scans}
+use Rattle.laws.proofs.Lines.{read-short}
+use Rattle.compiler.proofs.Scanned.{line-scans}
 
 pub record Parts (p : List ℕ) (t : Text) : Type 0 where
   pub k : Line

@@ -1,15 +1,13 @@
 -- A scan of a line's bytes finds the letters and constants of its side.
 -- The line is its written form, so the scan walks over each atom, sign and parenthesis as they were written; a constant's
 -- digits are passed as one run, since what follows an atom is never a digit.
-use Prim.Native.Nat.{ℕ, zero, suc, _+_, _-_, _<_, _≤_}
+use Prim.Native.Nat.{ℕ, zero, suc, _+_, _<_, _≤_}
 use mathlib.Core.Path.{_≡_, refl, sym, ap, _∙_}
 use mathlib.Core.Bool.{Bool, true, false, cond}
 use mathlib.Core.List.{List, [], _∷_, _++_, append-assoc, append-nil}
 use native.Mathlib.Omega.{arith}
-use lib.Dec.{leb}
 use lib.ListN.{length, getD, drop}
 use Rattle.std.proofs.shelf.Lists.{length-append}
-use Rattle.std.proofs.shelf.Tests.{leb-true}
 use Rattle.std.proofs.shelf.Ways.{tells}
 use Rattle.std.specs.Written.{decimal}
 use Rattle.rules.specs.declared.sign.Sign.{Sign}
@@ -18,16 +16,15 @@ use Rattle.rules.specs.declared.formula.Atom as atoms
 use Rattle.rules.specs.declared.formula.Atom.the-variants as a
 use Rattle.rules.specs.declared.formula.Target as targets
 use Rattle.rules.specs.declared.formula.Target.the-variants as t
-use Rattle.rules.specs.declared.refusal.Fault.the-variants.{LineEndMissing}
 use Rattle.rules.specs.Codes.{signByte}
 use Rattle.rules.specs.Tree.{Operand, atom, pair, Side, reading, single, both, Line}
 use Rattle.rules.specs.Written.{writtenAtom, written, writtenSide, writtenTarget, writtenLine}
-use Rattle.rules.specs.Reading.{Read, got, fails, between, isDigit, digitRun, Digits, constantAt, lineAt, lineRead}
+use Rattle.rules.specs.Reading.{Read, got, between, isDigit, digitRun, Digits, constantAt, lineRead}
 use Rattle.rules.specs.Programs.{GoodAtom, GoodOperand, GoodSide, GoodTarget}
 use Rattle.rules.specs.Mentions.{Mention, mention, atomMentions, mentions, sideMentions}
 use Rattle.laws.proofs.Digits.{constant-reads, decimal-digits}
 use Rattle.laws.proofs.Back.{sign-digits}
-use Rattle.laws.proofs.Lines.{lines-written}
+use Rattle.laws.proofs.Lines.{lines-written, read-short}
 use Rattle.compiler.specs.Scan.{scan, found}
 
 skip : (l x p : ℕ) (b : Bool) (xs : List ℕ) → isDigit x ≡ false → between 65 90 x ≡ false → scan l b p (x ∷ xs) ≡ scan l false (suc p) xs
@@ -116,14 +113,6 @@ side-scans (both y s z) x l f g =
     let j = operand-scans z 16 l (4 + length (written y)) (44 ∷ writtenTarget x) (f .1) refl in
     let c : scan l false (3 + length (written y)) (signByte s ∷ more) ≡ mentions l (4 + length (written y)) z = skip l (signByte s) _ false more (sign-plain s .0) (sign-plain s .1) ∙ (ap (λ (k : ℕ). scan l false k more) u ∙ (j ∙ (ap (λ (o : List Mention). mentions l (4 + length (written y)) z ++ o) (target-scans x l false _ g) ∙ append-nil (mentions l (4 + length (written y)) z)))) in
     ap (scan l false 3) (append-assoc (written y) (signByte s ∷ written z) (44 ∷ writtenTarget x)) ∙ (i ∙ ap (λ (o : List Mention). mentions l 3 y ++ o) c)
-
--- a line that is read is short enough
-pub read-short : (p rest : List ℕ) (k : Line) → lineRead p ≡ got k rest → (length p ≤ 80) × (lineAt p ≡ got k rest)
-read-short p rest k e = by (leb (length p) 80) refl e
-  where
-    by : (b : Bool) → leb (length p) 80 ≡ b → cond b (lineAt p) (fails LineEndMissing (length p - 80)) ≡ got k rest → (length p ≤ 80) × (lineAt p ≡ got k rest)
-    by true h f = (leb-true (length p) 80 h, f)
-    by false h f = let z : _≡_ {A = ℕ} 0 1 = cc in absurd (omega arith)
 
 pub line-scans : (l : ℕ) (p rest : List ℕ) (k : Line) → lineRead p ≡ got k rest → scan l false 3 (drop 2 p) ≡ sideMentions l (k .side)
 line-scans l p rest k e =

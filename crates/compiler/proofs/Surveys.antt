@@ -9,7 +9,7 @@ use mathlib.Core.List.{List, [], _∷_, _++_, reverse, append-assoc, append-nil}
 use native.Mathlib.Omega.{arith}
 use lib.Dec.{eqb, leb}
 use lib.ListN.{length, getD, set, replicate}
-use Rattle.std.proofs.shelf.Lists.{length-set, getD-set-same, getD-set-other, getD-replicate, reverse-append}
+use Rattle.std.proofs.shelf.Lists.{length-set, getD-set-same, getD-set-other, getD-replicate}
 use Rattle.std.proofs.shelf.Tests.{le-leb, lt-leb, eq-eqb, ne-eqb, cases-eq}
 use Rattle.std.specs.declared.option.Option.{Option}
 use Rattle.std.specs.declared.option.Option.the-variants.{Some, None}
@@ -25,15 +25,12 @@ use Rattle.rules.specs.Reading.{Read, got, fails, lineAt, lineRead}
 use Rattle.rules.specs.Texts.{Text, tail, line, has, awaited, allowed, closes, program, refused, parsedFrom}
 use Rattle.rules.specs.Operations.{lineParts, sideKind, sideOperations, sideCount, firstOver}
 use Rattle.rules.specs.Words.{codeWords}
-use Rattle.laws.proofs.Lines.{lines-written}
+use Rattle.laws.proofs.Lines.{lines-written, read-short}
+use Rattle.laws.proofs.Parsing.{reverse-onto}
 use Rattle.compiler.specs.declared.groups.Groups.{Groups}
 use Rattle.compiler.specs.declared.survey.Survey.{Survey}
 use Rattle.compiler.specs.Counted.{Marks, Counted, lastGroup, overOr}
 use Rattle.compiler.proofs.Lengths.{code-length}
-use Rattle.compiler.proofs.Scanned.{read-short}
-
-pub reverse-onto : (k : Line) (above below : List Line) → reverse (k ∷ above) ++ below ≡ reverse above ++ (k ∷ below)
-reverse-onto k above below = ap (λ (o : List Line). o ++ below) (reverse-append (k ∷ []) above) ∙ append-assoc (reverse above) (k ∷ []) below
 
 -- after the last line end
 pub long-end : (p : List ℕ) (above : List Line) (n : ℕ) → 80 < length p → n ≡ length above → parsedFrom (tail p) above ≡ refused (report 2 (n + 1) 81)

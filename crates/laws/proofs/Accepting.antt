@@ -21,14 +21,13 @@ use Rattle.rules.specs.Words.{tapeOf}
 use Rattle.rules.specs.Compiled.{Outcome, tape, refuse, unless, judged, onParsed, compiled}
 use Rattle.rules.specs.Programs.{GoodLine, Group, groupLines, letters, AllOf, In, WellFormed}
 use Rattle.laws.specs.Accepted.{WrittenAccepted, AcceptedWritten, TextReads, ReadWrites, OneProgram}
-use Rattle.laws.proofs.Lines.{lines-read, lines-written}
 use Rattle.laws.proofs.Groups.{Follows, groups-ruled, ruled-groups}
 use Rattle.laws.proofs.Limits.{letters-told, loose-none, none-loose, past-none, none-past, over-none, none-over}
 use Rattle.laws.proofs.Cutting.{uncut-cut}
 use Rattle.laws.proofs.Parsing.{Short, same-program, parses, shows}
 
 pub text-reads : TextReads
-text-reads ks w = parses lines-read lines-written ks [] (w .good) (w .short) (groups-ruled ks w)
+text-reads ks w = parses ks [] (w .good) (w .short) (groups-ruled ks w)
 
 pub one-program : OneProgram
 one-program ks ls v w e = same-program (sym (text-reads ks v) ∙ (ap parsed e ∙ text-reads ls w))
@@ -42,7 +41,7 @@ pub record Ruled (text : List ℕ) (ks : Program) : Type 0 where
 
 ruled : (text : List ℕ) (ks : Program) → parsed text ≡ program ks → Ruled text ks
 ruled text ks e =
-    let s = shows lines-read lines-written (cut text) [] ks e in
+    let s = shows (cut text) [] ks e in
     let q : s .lines ≡ ks = sym (s .whole) in
     record { good = subst (AllOf GoodLine) q (s .good); short = subst (AllOf Short) q (s .short); follows = subst (Follows []) q (s .follows); writes = sym (uncut-cut text) ∙ (s .text ∙ ap writtenText q) }
 

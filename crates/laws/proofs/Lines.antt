@@ -1,14 +1,14 @@
 -- A line that is written is read again as what it was, and what was read as a line is what was written.
-use Prim.Native.Nat.{ℕ, _≤_}
+use Prim.Native.Nat.{ℕ, _-_, _≤_}
 use mathlib.Core.Path.{_≡_, refl, sym, ap, subst, _∙_}
-use mathlib.Core.Bool.{Bool, true, false}
+use mathlib.Core.Bool.{Bool, true, false, cond}
 use mathlib.Core.List.{List, [], _∷_, _++_, append-assoc, append-nil}
 use mathlib.Core.Logic.{_⊎_, inl, inr}
 use native.Mathlib.Omega.{arith}
-use lib.Dec.{eqb}
-use lib.ListN.{drop}
+use lib.Dec.{eqb, leb}
+use lib.ListN.{length, drop}
 use Rattle.std.proofs.shelf.Ways.{tells}
-use Rattle.std.proofs.shelf.Tests.{ne-eqb, eqb-true}
+use Rattle.std.proofs.shelf.Tests.{ne-eqb, eqb-true, leb-true}
 use Rattle.rules.specs.declared.sign.Sign.{Sign}
 use Rattle.rules.specs.declared.sign.Sign.the-variants.{Sum, Product, Difference, Quotient, Distance, Remainder, Greater, Smaller}
 use Rattle.rules.specs.declared.formula.Start.{Start}
@@ -17,10 +17,11 @@ use Rattle.rules.specs.declared.formula.Atom.{Atom}
 use Rattle.rules.specs.declared.formula.Atom.the-variants as A
 use Rattle.rules.specs.declared.formula.Target.{Target}
 use Rattle.rules.specs.declared.formula.Target.the-variants as T
+use Rattle.rules.specs.declared.refusal.Fault.the-variants.{LineEndMissing}
 use Rattle.rules.specs.Codes.{signByte}
 use Rattle.rules.specs.Tree.{Operand, atom, pair, Side, reading, single, both, Line}
 use Rattle.rules.specs.Written.{written, writtenAtom, writtenSide, writtenTarget, writtenLine}
-use Rattle.rules.specs.Reading.{got, onward, first, start, byteAt, variableAt, letterAt, operandAt, secondAt, depthLimit, openingAt, singleOn, sideAfter, sideOn, sideAt, targetOn, targetAt, endAt}
+use Rattle.rules.specs.Reading.{got, fails, onward, first, start, byteAt, variableAt, letterAt, operandAt, secondAt, depthLimit, openingAt, singleOn, sideAfter, sideOn, sideAt, targetOn, targetAt, endAt, lineAt, lineRead}
 use Rattle.rules.specs.Programs.{GoodAtom, GoodOperand, GoodSide, GoodTarget, GoodLine}
 use Rattle.laws.specs.Roundtrip.{LinesRead, LinesWritten}
 use Rattle.laws.proofs.Digits.{constant-start}
@@ -176,3 +177,11 @@ lines-written xs rest k e = let a = onward-back (openingAt xs) _ k rest e in sid
 
     sides : (g : ℕ) (ys : List ℕ) → (65 ≤ g) × (g ≤ 90) × (xs ≡ g ∷ (44 ∷ ys)) → onward (sideAt ys) (λ s zs. onward (byteAt 44 zs) (λ _ us. onward (targetAt us) (λ t vs. endAt (record { group = g; side = s; target = t }) vs))) ≡ got k rest → GoodLine k × (xs ≡ writtenLine k) × (rest ≡ [])
     sides g ys o e = let a = onward-back (sideAt ys) _ k rest e in commas g (a .0) ys (a .1) o (side-back ys (a .1) (a .0) (a .2)) (a .3)
+
+-- a line that is read is short enough
+pub read-short : (p rest : List ℕ) (k : Line) → lineRead p ≡ got k rest → (length p ≤ 80) × (lineAt p ≡ got k rest)
+read-short p rest k e = by (leb (length p) 80) refl e
+  where
+    by : (b : Bool) → leb (length p) 80 ≡ b → cond b (lineAt p) (fails LineEndMissing (length p - 80)) ≡ got k rest → (length p ≤ 80) × (lineAt p ≡ got k rest)
+    by true h f = (leb-true (length p) 80 h, f)
+    by false h f = let z : _≡_ {A = ℕ} 0 1 = cc in absurd (omega arith)

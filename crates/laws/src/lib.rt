@@ -5,44 +5,34 @@ ghost use Rattle.laws.specs.Accepted.{WrittenAccepted, AcceptedWritten, TextRe
 ghost use Rattle.laws.specs.Temporaries.{TemporariesFit, OperationsFew};
 
 // The worked examples hold of the definitions.
-pub fn examples_stand() -> u8
+pub fn examples_stand()
     ensures { λ _. ⌜ Examples ⌝ }
-{
-    0
-}
+{}
 
 // What is written is read as what it was, and nothing else is read.
-pub fn reading_undoes_writing() -> u8
+pub fn reading_undoes_writing()
     ensures operands { λ _. ⌜ OperandsRead ⌝ }
     ensures operands_back { λ _. ⌜ OperandsWritten ⌝ }
     ensures lines { λ _. ⌜ LinesRead ⌝ }
     ensures lines_back { λ _. ⌜ LinesWritten ⌝ }
-{
-    0
-}
+{}
 
 // The texts that are accepted are those that write a well-formed program, each one program.
-pub fn acceptance() -> u8
+pub fn acceptance()
     ensures written_accepted { λ _. ⌜ WrittenAccepted ⌝ }
     ensures accepted_written { λ _. ⌜ AcceptedWritten ⌝ }
     ensures text_reads { λ _. ⌜ TextReads ⌝ }
     ensures read_writes { λ _. ⌜ ReadWrites ⌝ }
     ensures one_program { λ _. ⌜ OneProgram ⌝ }
-{
-    0
-}
+{}
 
 // A line of at most 80 bytes is too short for a temporary past 15 and for more than 19 operations.
-pub fn temporaries_suffice() -> u8
+pub fn temporaries_suffice()
     ensures fit { λ _. ⌜ TemporariesFit ⌝ }
     ensures few { λ _. ⌜ OperationsFew ⌝ }
-{
-    0
-}
+{}
 
 // The bytes before the place of a refusal begin some line; with what stands at the place they begin none.
-pub fn places_are_first() -> u8
+pub fn places_are_first()
     ensures { λ _. ⌜ PlacesAreFirst ⌝ }
-{
-    0
-}
+{}
