@@ -27,6 +27,7 @@ use Rattle.rules.specs.Written.{writtenText}
 use Rattle.rules.specs.Programs.{WellFormed}
 use Rattle.laws.proofs.Lines.{lines-written}
 use Rattle.laws.proofs.Accepting.{accepted-written, written-accepted}
+use Rattle.laws.proofs.Lengths.{tape-length}
 use Rattle.compiler.specs.declared.survey.Survey.{Survey}
 use Rattle.compiler.specs.declared.inventory.Inventory.{Inventory}
 use Rattle.compiler.specs.Lines.{readLines, Readable, onto}
@@ -36,7 +37,6 @@ use Rattle.compiler.specs.Kept.{Kept, kept, shown, tallied, start}
 use Rattle.compiler.specs.Put.{Wrote}
 use Rattle.compiler.specs.Meant.{Written, Meant}
 use Rattle.compiler.proofs.Keeps.{tallied-is}
-use Rattle.compiler.proofs.Lengths.{tape-length}
 use Rattle.compiler.proofs.Scanned.{read-short}
 use Rattle.compiler.proofs.Surveys.{reverse-onto}
 

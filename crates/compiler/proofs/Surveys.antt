@@ -24,10 +24,10 @@ use Rattle.rules.specs.Texts.{Text, tail, line, has, awaited, allowed, closes, 
 use Rattle.rules.specs.Operations.{lineParts, sideKind, sideOperations, sideCount, firstOver}
 use Rattle.rules.specs.Words.{codeWords}
 use Rattle.laws.proofs.Lines.{lines-written}
+use Rattle.laws.proofs.Lengths.{code-length}
 use Rattle.compiler.specs.declared.groups.Groups.{Groups}
 use Rattle.compiler.specs.declared.survey.Survey.{Survey}
 use Rattle.compiler.specs.Counted.{Marks, Counted, lastGroup, overOr}
-use Rattle.compiler.proofs.Lengths.{code-length}
 use Rattle.compiler.proofs.Scanned.{read-short}
 
 pub reverse-onto : (k : Line) (above below : List Line) → reverse (k ∷ above) ++ below ≡ reverse above ++ (k ∷ below)

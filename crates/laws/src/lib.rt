@@ -3,6 +3,7 @@ ghost use Rattle.laws.specs.Places.{PlacesAreFirst};
 ghost use Rattle.laws.specs.Roundtrip.{OperandsRead, OperandsWritten, LinesRead, LinesWritten};
 ghost use Rattle.laws.specs.Accepted.{WrittenAccepted, AcceptedWritten, TextReads, ReadWrites, OneProgram};
 ghost use Rattle.laws.specs.Temporaries.{TemporariesFit, OperationsFew};
+ghost use Rattle.laws.specs.Longest.{LongestTape};
 
 // The worked examples hold of the definitions.
 pub fn examples_stand() -> u8
@@ -43,6 +44,13 @@ pub fn temporaries_suffice() -> u8
 // The bytes before the place of a refusal begin some line; with what stands at the place they begin none.
 pub fn places_are_first() -> u8
     ensures { λ _. ⌜ PlacesAreFirst ⌝ }
+{
+    0
+}
+
+// A buffer of 491 words holds every tape.
+pub fn tapes_are_short() -> u8
+    ensures { λ _. ⌜ LongestTape ⌝ }
 {
     0
 }
