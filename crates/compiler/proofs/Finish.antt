@@ -31,6 +31,7 @@ use Rattle.rules.specs.Programs.{WellFormed}
 use Rattle.laws.proofs.Lines.{lines-written, read-short}
 use Rattle.laws.proofs.Parsing.{same-program, reverse-onto}
 use Rattle.laws.proofs.Accepting.{accepted-written, written-accepted}
+use Rattle.laws.proofs.Lengths.{tape-length}
 use Rattle.compiler.specs.declared.survey.Survey.{Survey}
 use Rattle.compiler.specs.declared.inventory.Inventory.{Inventory}
 use Rattle.compiler.specs.Lines.{readLines, Readable, onto}
@@ -40,7 +41,6 @@ use Rattle.compiler.specs.Kept.{Kept, kept, shown, tallied, start}
 use Rattle.compiler.specs.Put.{Wrote}
 use Rattle.compiler.specs.Meant.{Written, Meant}
 use Rattle.compiler.proofs.Keeps.{tallied-is}
-use Rattle.compiler.proofs.Lengths.{tape-length}
 
 -- a text that is read is readable, and what was read are its lines
 only-line : (p rest : List ℕ) (k : Line) → lineRead p ≡ got k rest → lineRead p ≡ got k []

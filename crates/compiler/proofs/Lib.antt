@@ -1,6 +1,5 @@
 mod Cuts
 mod Tables
-mod Lengths
 mod Surveys
 mod Scanned
 mod Keeps

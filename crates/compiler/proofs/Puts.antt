@@ -13,8 +13,8 @@ use Rattle.rules.specs.Tree.{Side, reading, single, both, Line, Program}
 use Rattle.rules.specs.Operations.{sideOperations}
 use Rattle.rules.specs.Cells.{temporaryCell, constantCell, targetAddress}
 use Rattle.rules.specs.Words.{word, operationWord, operationWords, resultAddress, sideWords, lineWords, headIf, codeWords, constantWords, tapeOf}
+use Rattle.laws.proofs.Lengths.{operations-length, constants-length}
 use Rattle.compiler.specs.Put.{Wrote}
-use Rattle.compiler.proofs.Lengths.{operations-length, constants-length}
 
 pub one-more : (tape ws all : List ℕ) (at n w : ℕ) → at < length tape → n ≡ at + 1 → take at tape ++ (w ∷ ws) ≡ all → take n (set tape at w) ++ ws ≡ all
 one-more tape ws all at n w h e f = rw (e, take-more-set tape at w h) (append-assoc (take at tape) (w ∷ []) ws ∙ f)

@@ -26,11 +26,11 @@ use Rattle.rules.specs.Texts.{Text, tail, line, has, awaited, allowed, closes, 
 use Rattle.rules.specs.Operations.{lineParts, sideKind, sideOperations, sideCount, firstOver}
 use Rattle.rules.specs.Words.{codeWords}
 use Rattle.laws.proofs.Lines.{lines-written, read-short}
+use Rattle.laws.proofs.Lengths.{code-length}
 use Rattle.laws.proofs.Parsing.{reverse-onto}
 use Rattle.compiler.specs.declared.groups.Groups.{Groups}
 use Rattle.compiler.specs.declared.survey.Survey.{Survey}
 use Rattle.compiler.specs.Counted.{Marks, Counted, lastGroup, overOr}
-use Rattle.compiler.proofs.Lengths.{code-length}
 
 -- after the last line end
 pub long-end : (p : List ℕ) (above : List Line) (n : ℕ) → 80 < length p → n ≡ length above → parsedFrom (tail p) above ≡ refused (report 2 (n + 1) 81)

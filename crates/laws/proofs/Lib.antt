@@ -10,3 +10,5 @@ pub mod Parsing
 pub mod Waiting
 pub mod Accepting
 pub mod Places
+pub mod Lengths
+pub mod Longest

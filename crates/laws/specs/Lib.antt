@@ -3,3 +3,4 @@ pub mod Roundtrip
 pub mod Accepted
 pub mod Temporaries
 pub mod Places
+pub mod Longest

@@ -3,6 +3,7 @@ ghost use Rattle.laws.specs.Places.{PlacesAreFirst};
 ghost use Rattle.laws.specs.Roundtrip.{OperandsRead, OperandsWritten, LinesRead, LinesWritten};
 ghost use Rattle.laws.specs.Accepted.{WrittenAccepted, AcceptedWritten, TextReads, ReadWrites, OneProgram};
 ghost use Rattle.laws.specs.Temporaries.{TemporariesFit, OperationsFew};
+ghost use Rattle.laws.specs.Longest.{LongestTape};
 
 // The worked examples hold of the definitions.
 pub fn examples_stand()
@@ -35,4 +36,9 @@ pub fn temporaries_suffice()
 // The bytes before the place of a refusal begin some line; with what stands at the place they begin none.
 pub fn places_are_first()
     ensures { λ _. ⌜ PlacesAreFirst ⌝ }
+{}
+
+// A buffer of 491 words holds every tape.
+pub fn tapes_are_short()
+    ensures { λ _. ⌜ LongestTape ⌝ }
 {}

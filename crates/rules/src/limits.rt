@@ -11,3 +11,6 @@ pub const DIGIT_LIMIT: usize = 14;
 pub const CONSTANT_LIMIT: usize = 46;
 
 pub const INSTRUCTION_LIMIT: usize = 372;
+
+// How long the tape of an accepted text can be: two words for each constant, 26 heads, the instructions and the end word.
+pub const LONGEST_TAPE: usize = 491;

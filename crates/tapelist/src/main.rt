@@ -6,7 +6,12 @@ ghost use Prim.Native.Nat.{_-_};
 ghost use lib.ListN.{take};
 ghost use Rattle.std.specs.Of.Vec.{vec-items, vec-len};
 ghost use Rattle.std.specs.Results.{isOk};
+ghost use Rattle.std.specs.Vec.{made};
+ghost use Rattle.rules.specs.Compiled.{compiled};
+ghost use Rattle.tapelist.specs.Listed.{Listed};
 use compiler::compile;
+use rules::limits::LONGEST_TAPE;
+use rules::limits::TEXT_LIMIT;
 use rules::refusal::TextRefusal;
 use std::alloc::AllocError;
 use std::alloc::Global;
@@ -15,13 +20,10 @@ use std::io;
 use std::io::Read;
 
 // One byte more than a text may have: enough to see that a text is too long.
-const MOST_BYTES: usize = 16_385;
+const MOST_BYTES: usize = TEXT_LIMIT + 1;
 
 // How much is read at once.
 const CHUNK: usize = 4_096;
-
-// The longest tape: two words for each of 46 constants, 26 heads, 372 instructions and the end word.
-const LONGEST_TAPE: usize = 491;
 
 // Adds a chunk of the input to the text, as far as the text stays within so many bytes.
 fn keep(text: &mut Vec<u8>, chunk: &[u8], most: usize) -> Result<(), AllocError>
@@ -55,7 +57,10 @@ fn read_text(heap: Global, input: &mut impl Read) -> io::Result<Vec<u8>> {
     Ok(text)
 }
 
-fn tape_of(heap: Global, text: &[u8]) -> Result<Result<Vec<u64>, TextRefusal>, AllocError> {
+// The tape of a text, or why it is refused; a short buffer is no reason, since no tape is longer than the one made here.
+fn tape_of(heap: Global, text: &[u8]) -> Result<Result<Vec<u64>, TextRefusal>, AllocError>
+    ensures { λ r. ⌜ made r (Listed (compiled (now (text .entry)))) ⌝ }
+{
     let mut tape = vec![in heap; 0; LONGEST_TAPE]?;
     match compile(text, &mut tape) {
         Ok(length) => {

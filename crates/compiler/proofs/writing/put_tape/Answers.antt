@@ -1,8 +1,8 @@
 use native.Mathlib.Omega.{arith}
 use Rattle.rules.specs.Texts.{cut}
+use Rattle.laws.proofs.Lengths.{tape-length, constants-length}
 use Rattle.compiler.specs.Held.{table}
 use Rattle.compiler.specs.Lines.{readLines}
-use Rattle.compiler.proofs.Lengths.{tape-length, constants-length}
 use Rattle.compiler.proofs.Puts.{wrote-tape}
 use Rattle.compiler.proofs.writing.put_tape.Needs as need
 
