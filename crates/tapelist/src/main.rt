@@ -4,14 +4,16 @@ ghost use mathlib.Core.Bool.{cond};
 ghost use mathlib.Core.List.{_++_};
 ghost use Prim.Native.Nat.{_-_};
 ghost use lib.ListN.{take};
+ghost use Rattle.std.specs.Of.String.{string-bytes};
 ghost use Rattle.std.specs.Of.Vec.{vec-items, vec-len};
 ghost use Rattle.std.specs.Results.{isOk};
 ghost use Rattle.std.specs.Vec.{made};
 ghost use Rattle.rules.specs.Compiled.{compiled};
-ghost use Rattle.tapelist.specs.Listed.{Listed};
+ghost use Rattle.tapelist.specs.Listed.{Listed, refusalLine};
 use compiler::compile;
 use rules::limits::LONGEST_TAPE;
 use rules::limits::TEXT_LIMIT;
+use rules::refusal::Report;
 use rules::refusal::TextRefusal;
 use std::alloc::AllocError;
 use std::alloc::Global;
@@ -81,8 +83,10 @@ fn listing(heap: Global, tape: &[u64]) -> Result<String, AllocError> {
     Ok(lines)
 }
 
-fn refused(heap: Global, refusal: TextRefusal) -> Result<String, AllocError> {
-    let report = refusal.report();
+// One line for a refusal.
+fn refused(heap: Global, report: Report) -> Result<String, AllocError>
+    ensures { λ r. ⌜ made r (λ s. string-bytes s ≡ refusalLine report) ⌝ }
+{
     let number = report.number;
     let line = report.line;
     let place = report.place;
@@ -94,7 +98,7 @@ fn run(rt: &LibcRuntime) -> Result<(), AnyError> {
     let text = read_text(heap, &mut rt.stdin())?;
     let answer = match tape_of(heap, &text)? {
         Ok(tape) => listing(heap, &tape)?,
-        Err(refusal) => refused(heap, refusal)?,
+        Err(refusal) => refused(heap, refusal.report())?,
     };
     rt.print(answer.as_str())?;
     Ok(())
