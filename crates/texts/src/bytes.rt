@@ -244,6 +244,6 @@ const BYTES: [Case; 39] = [
     },
 ];
 
-pub fn cases() -> &'static [Case] {
+pub(crate) fn cases() -> &'static [Case] {
     &BYTES
 }

@@ -53,7 +53,7 @@ impl Part {
 }
 
 impl Case {
-    pub fn text(&self, heap: Global) -> Result<String, AllocError> {
+    pub(crate) fn text(&self, heap: Global) -> Result<String, AllocError> {
         let mut text = String::new(heap);
         for part in self.parts {
             part.write(heap, &mut text)?;

@@ -68,6 +68,6 @@ const CONSTANTS: [Case; 10] = [
     },
 ];
 
-pub fn cases() -> &'static [Case] {
+pub(crate) fn cases() -> &'static [Case] {
     &CONSTANTS
 }

@@ -297,6 +297,6 @@ const GOOD: [Case; 38] = [
     },
 ];
 
-pub fn cases() -> &'static [Case] {
+pub(crate) fn cases() -> &'static [Case] {
     &GOOD
 }

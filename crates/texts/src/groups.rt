@@ -89,6 +89,6 @@ const GROUPS: [Case; 13] = [
     },
 ];
 
-pub fn cases() -> &'static [Case] {
+pub(crate) fn cases() -> &'static [Case] {
     &GROUPS
 }

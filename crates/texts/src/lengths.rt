@@ -155,6 +155,6 @@ const LENGTHS: [Case; 22] = [
     },
 ];
 
-pub fn cases() -> &'static [Case] {
+pub(crate) fn cases() -> &'static [Case] {
     &LENGTHS
 }

@@ -146,6 +146,6 @@ const LIMITS: [Case; 16] = [
     },
 ];
 
-pub fn cases() -> &'static [Case] {
+pub(crate) fn cases() -> &'static [Case] {
     &LIMITS
 }

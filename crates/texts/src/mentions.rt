@@ -164,6 +164,6 @@ const MENTIONS: [Case; 15] = [
     },
 ];
 
-pub fn cases() -> &'static [Case] {
+pub(crate) fn cases() -> &'static [Case] {
     &MENTIONS
 }

@@ -62,6 +62,6 @@ const PARENTHESES: [Case; 9] = [
     },
 ];
 
-pub fn cases() -> &'static [Case] {
+pub(crate) fn cases() -> &'static [Case] {
     &PARENTHESES
 }
