@@ -10,7 +10,7 @@ use native.Mathlib.Omega.{arith}
 use lib.Dec.{eqb, leb}
 use lib.ListN.{length, take, drop}
 use Rattle.std.proofs.shelf.Lists.{take-append-drop, take-at, reverse-append}
-use Rattle.std.proofs.shelf.Tests.{le-leb, lt-leb, ne-eqb, eq-eqb}
+use Rattle.std.proofs.shelf.Tests.{le-leb, lt-leb}
 use Rattle.std.specs.declared.option.Option.{Option}
 use Rattle.std.specs.declared.option.Option.the-variants.{Some, None}
 use Rattle.std.specs.declared.result.Result.{Result}
@@ -21,7 +21,7 @@ use Rattle.rules.specs.declared.refusal.Report.{Report}
 use Rattle.rules.specs.Refusals.{report, reported, placed}
 use Rattle.rules.specs.Tree.{Line, Program}
 use Rattle.rules.specs.Reading.{Read, got, fails, lineRead}
-use Rattle.rules.specs.Texts.{Text, tail, line, cut, has, awaited, allowed, onLine, Parsed, program, refused, parsedFrom, parsed}
+use Rattle.rules.specs.Texts.{Text, tail, line, cut, has, awaited, allowed, endedBy, onLine, Parsed, program, refused, parsedFrom, parsed}
 use Rattle.rules.specs.Mentions.{programMentions, firstLoose, firstPast, constantsOf}
 use Rattle.rules.specs.Operations.{firstOver}
 use Rattle.rules.specs.Words.{codeWords, tapeOf}
@@ -36,7 +36,7 @@ use Rattle.compiler.specs.declared.survey.Survey.{Survey}
 use Rattle.compiler.specs.declared.inventory.Inventory.{Inventory}
 use Rattle.compiler.specs.Lines.{readLines, Readable, onto}
 use Rattle.compiler.specs.Held.{table}
-use Rattle.compiler.specs.Counted.{Marks, Counted}
+use Rattle.compiler.specs.Counted.{Marks, Counted, overOr}
 use Rattle.compiler.specs.Kept.{Kept, kept, shown, tallied, start}
 use Rattle.compiler.specs.Put.{Wrote}
 use Rattle.compiler.specs.Meant.{Written, Meant}
@@ -46,9 +46,9 @@ use Rattle.compiler.proofs.Keeps.{tallied-is}
 only-line : (p rest : List ℕ) (k : Line) → lineRead p ≡ got k rest → lineRead p ≡ got k []
 only-line p rest k e = let w = lines-written p rest k (read-short p rest k e .1) in e ∙ ap (got k) (w .2)
 
-closes-at : (b : Bool) (above ks : Program) (n : ℕ) → cond b (program (reverse above)) (refused (report 6 n 0)) ≡ program ks → ks ≡ reverse above
-closes-at true above ks n e = sym (same-program e)
-closes-at false above ks n e = let z : _≡_ {A = ℕ} 0 1 = cc in absurd (omega arith)
+closes-at : (o : Option ℕ) (above ks : Program) → endedBy o above ≡ program ks → ks ≡ reverse above
+closes-at None above ks e = sym (same-program e)
+closes-at (Some a) above ks e = let z : _≡_ {A = ℕ} 0 1 = cc in absurd (omega arith)
 
 abbrev Its : Text → Program → Program → Type 0
 Its t above ks = Readable t × (ks ≡ reverse above ++ readLines t)
@@ -58,7 +58,7 @@ More t ks = (v : Program) → parsedFrom t v ≡ program ks → Its t v ks
 
 its-lines : (t : Text) (above ks : Program) → parsedFrom t above ≡ program ks → Its t above ks
 unfolding parsedFrom Readable readLines
-its-lines (tail []) above ks e = (tt, closes-at (eqb (awaited above) 0) above ks _ e ∙ sym (append-nil (reverse above)))
+its-lines (tail []) above ks e = (tt, closes-at (awaited above) above ks e ∙ sym (append-nil (reverse above)))
 its-lines (tail (x ∷ xs)) above ks e = let z : _≡_ {A = ℕ} 0 1 = cc in absurd (omega arith)
 its-lines (line p t) above ks e = reads (λ (v : Program) f. its-lines t v ks f) (lineRead p) refl e
   where
@@ -141,25 +141,23 @@ its-constants text above v f e = sym (tallied-is (programMentions 1 (readLines (
 pub compiled-past : (text : List ℕ) (above : Program) (v : Inventory) (r : Report) → Found text above v → shown (v .past) ≡ Some r → compiled text ≡ refuse r
 compiled-past text above v r f e = compiled-judged text above (f .short) (f .parses) ∙ rw (f .lettered, its-past text above v f ∙ e)
 
-its-over : (s : Survey) (text : List ℕ) (above : Program) → parsed text ≡ program (reverse above) → Counted s above → firstOver 0 1 (readLines (cut text)) ≡ cond (eqb (s .over) 0) None (Some (report 9 (s .over) 0))
+its-over : (s : Survey) (text : List ℕ) (above : Program) → parsed text ≡ program (reverse above) → Counted s above → firstOver 0 1 (readLines (cut text)) ≡ overOr (s .over) None
 its-over s text above e c = ap (firstOver 0 1) (the-lines text above e ∙ sym (append-nil (reverse above))) ∙ c .over []
 
-pub compiled-over : (s : Survey) (text : List ℕ) (above : Program) (v : Inventory) → Found text above v → v .past ≡ None → Counted s above → 0 < s .over → compiled text ≡ refuse (report 9 (s .over) 0)
-compiled-over s text above v f n c h =
-    let z : eqb (s .over) 0 ≡ false = ne-eqb (s .over) 0 (λ y. omega arith) in
-    let o : firstOver 0 1 (readLines (cut text)) ≡ Some (report 9 (s .over) 0) = its-over s text above (f .parses) c ∙ rw z in
+pub compiled-over : (s : Survey) (text : List ℕ) (above : Program) (v : Inventory) (l : ℕ) → Found text above v → v .past ≡ None → Counted s above → s .over ≡ Some l → compiled text ≡ refuse (report 9 l 0)
+compiled-over s text above v l f n c h =
+    let o : firstOver 0 1 (readLines (cut text)) ≡ Some (report 9 l 0) = its-over s text above (f .parses) c ∙ ap (λ (x : Option ℕ). overOr x None) h in
     compiled-judged text above (f .short) (f .parses) ∙ rw (f .lettered, its-past text above v f ∙ ap shown n, o)
 
-pub compiled-tape : (s : Survey) (text : List ℕ) (above : Program) (v : Inventory) → Found text above v → v .past ≡ None → Counted s above → s .over ≤ 0 → compiled text ≡ tape (tapeOf (table (v .constants)) (readLines (cut text)))
+pub compiled-tape : (s : Survey) (text : List ℕ) (above : Program) (v : Inventory) → Found text above v → v .past ≡ None → Counted s above → s .over ≡ None → compiled text ≡ tape (tapeOf (table (v .constants)) (readLines (cut text)))
 compiled-tape s text above v f n c h =
-    let z : eqb (s .over) 0 ≡ true = eq-eqb (s .over) 0 (omega arith) in
-    let o : firstOver 0 1 (readLines (cut text)) ≡ None = its-over s text above (f .parses) c ∙ rw z in
+    let o : firstOver 0 1 (readLines (cut text)) ≡ None = its-over s text above (f .parses) c ∙ ap (λ (x : Option ℕ). overOr x None) h in
     compiled-judged text above (f .short) (f .parses) ∙ rw (f .lettered, its-past text above v f ∙ ap shown n, o, its-constants text above v f n)
 
 -- the tape's length, from the counts
 pub its-length : (s : Survey) (text : List ℕ) (above : Program) (cs : List ℕ) (l : ℕ) → parsed text ≡ program (reverse above) → Counted s above → l ≡ length cs → 2 * l + s .heads + s .instructions + 1 ≡ length (tapeOf cs (readLines (cut text)))
 its-length s text above cs l e c h =
-    let g : length (codeWords cs 0 (readLines (cut text))) ≡ s .heads + s .instructions + 0 = ap (λ (o : Program). length (codeWords cs 0 o)) (the-lines text above e ∙ sym (append-nil (reverse above))) ∙ c .words cs [] in
+    let g : length (codeWords cs None (readLines (cut text))) ≡ s .heads + s .instructions + 0 = ap (λ (o : Program). length (codeWords cs None o)) (the-lines text above e ∙ sym (append-nil (reverse above))) ∙ c .words cs [] in
     omega (arith, tape-length cs (readLines (cut text)))
 
 -- the answer and the buffer

@@ -8,6 +8,8 @@ use native.Mathlib.Omega.{arith}
 use lib.ListN.{length, take, drop, set, getD}
 use Rattle.std.proofs.shelf.Lists.{take-more-set, drop-set-lt, drop-more, drop-drop, drop-all, length-append, length-drop, length-set}
 use lib.Seq.{drop-cons}
+use Rattle.std.specs.declared.option.Option.{Option}
+use Rattle.std.specs.declared.option.Option.the-variants.{Some, None}
 use Rattle.rules.specs.declared.operation.Operation.{Operation}
 use Rattle.rules.specs.Tree.{Side, reading, single, both, Line, Program}
 use Rattle.rules.specs.Operations.{sideOperations}
@@ -95,12 +97,12 @@ constants-all t old held cs i c e f g =
       count = omega (arith, constants-length 0 cs, ap length c);
     }
 
-pub wrote-tape : (a b c d cs : List ℕ) (ks : Program) (m n o : ℕ) → Wrote a 0 (constantWords 0 cs) b m → Wrote b m (codeWords cs 0 ks) c n → Wrote c n (0 ∷ []) d o → Wrote a 0 (tapeOf cs ks) d o
+pub wrote-tape : (a b c d cs : List ℕ) (ks : Program) (m n o : ℕ) → Wrote a 0 (constantWords 0 cs) b m → Wrote b m (codeWords cs None ks) c n → Wrote c n (0 ∷ []) d o → Wrote a 0 (tapeOf cs ks) d o
 unfolding tapeOf
-wrote-tape a b c d cs ks m n o p q r = wrote-then a b d (constantWords 0 cs) (codeWords cs 0 ks ++ (0 ∷ [])) 0 m o p (wrote-then b c d (codeWords cs 0 ks) (0 ∷ []) m n o q r)
+wrote-tape a b c d cs ks m n o p q r = wrote-then a b d (constantWords 0 cs) (codeWords cs None ks ++ (0 ∷ [])) 0 m o p (wrote-then b c d (codeWords cs None ks) (0 ∷ []) m n o q r)
 
 -- what is still to be written of the lines below
-pub record Left (cs tape : List ℕ) (at above : ℕ) (ks : Program) (all old : List ℕ) (end : ℕ) : Type 0 where
+pub record Left (cs tape : List ℕ) (at : ℕ) (above : Option ℕ) (ks : Program) (all old : List ℕ) (end : ℕ) : Type 0 where
   pub front : take at tape ++ codeWords cs above ks ≡ all
   pub back : drop at tape ≡ drop at old
   pub count : at + length (codeWords cs above ks) ≡ end
@@ -111,32 +113,32 @@ side-room cs er reading = omega arith
 side-room cs er (single x) = omega arith
 side-room cs er (both l s r) = omega (arith, operations-length cs er (sideOperations (both l s r)))
 
-split-length : (cs : List ℕ) (above : ℕ) (k : Line) (ls ks : Program) → ks ≡ k ∷ ls → length (codeWords cs above ks) ≡ length (headIf above (k .group)) + (length (lineWords cs k) + length (codeWords cs (k .group) ls))
+split-length : (cs : List ℕ) (above : Option ℕ) (k : Line) (ls ks : Program) → ks ≡ k ∷ ls → length (codeWords cs above ks) ≡ length (headIf above (k .group)) + (length (lineWords cs k) + length (codeWords cs (Some (k .group)) ls))
 split-length cs above k ls ks e = ap (λ (x : Program). length (codeWords cs above x)) e ∙ simp length-append
 
-pub line-room : (cs tape tape₁ all old : List ℕ) (at above end m g : ℕ) (k : Line) (ls ks : Program) (os : List Operation) → ks ≡ k ∷ ls → Left cs tape at above ks all old end → os ≡ sideOperations (k .side) → g ≡ k .group → Wrote tape at (headIf above g) tape₁ m → length tape₁ ≡ length tape → m + length os + 1 ≤ length tape₁
+pub line-room : (cs tape tape₁ all old : List ℕ) (at : ℕ) (above : Option ℕ) (end m g : ℕ) (k : Line) (ls ks : Program) (os : List Operation) → ks ≡ k ∷ ls → Left cs tape at above ks all old end → os ≡ sideOperations (k .side) → g ≡ k .group → Wrote tape at (headIf above g) tape₁ m → length tape₁ ≡ length tape → m + length os + 1 ≤ length tape₁
 line-room cs tape tape₁ all old at above end m g k ls ks os e i o q w n =
     let c = split-length cs above k ls ks e in
     let d : length os ≡ length (sideOperations (k .side)) = ap length o in
     let h : length (headIf above g) ≡ length (headIf above (k .group)) = ap (λ (x : ℕ). length (headIf above x)) q in
     omega (arith, i .room, i .count, w .count, side-room cs (targetAddress (k .target)) (k .side))
 
-pub left-turn : (cs tape₀ tape₁ tape₂ all old : List ℕ) (at₀ at₁ at₂ above end g : ℕ) (k : Line) (ls ks : Program) → ks ≡ k ∷ ls → length tape₁ ≡ length tape₀ → length tape₂ ≡ length tape₁ → Left cs tape₀ at₀ above ks all old end → g ≡ k .group → Wrote tape₀ at₀ (headIf above g) tape₁ at₁ → Wrote tape₁ at₁ (lineWords cs k) tape₂ at₂ → Left cs tape₂ at₂ g ls all old end
+pub left-turn : (cs tape₀ tape₁ tape₂ all old : List ℕ) (at₀ at₁ at₂ : ℕ) (above : Option ℕ) (end g : ℕ) (k : Line) (ls ks : Program) → ks ≡ k ∷ ls → length tape₁ ≡ length tape₀ → length tape₂ ≡ length tape₁ → Left cs tape₀ at₀ above ks all old end → g ≡ k .group → Wrote tape₀ at₀ (headIf above g) tape₁ at₁ → Wrote tape₁ at₁ (lineWords cs k) tape₂ at₂ → Left cs tape₂ at₂ (Some g) ls all old end
 left-turn cs tape₀ tape₁ tape₂ all old at₀ at₁ at₂ above end g k ls ks e n₁ n₂ i q a b =
-    let f : take at₀ tape₀ ++ (headIf above (k .group) ++ (lineWords cs k ++ codeWords cs (k .group) ls)) ≡ all = subst (λ (x : Program). take at₀ tape₀ ++ codeWords cs above x ≡ all) e (i .front) in
-    let f′ : take at₀ tape₀ ++ (headIf above g ++ (lineWords cs k ++ codeWords cs g ls)) ≡ all = rw q f in
+    let f : take at₀ tape₀ ++ (headIf above (k .group) ++ (lineWords cs k ++ codeWords cs (Some (k .group)) ls)) ≡ all = subst (λ (x : Program). take at₀ tape₀ ++ codeWords cs above x ≡ all) e (i .front) in
+    let f′ : take at₀ tape₀ ++ (headIf above g ++ (lineWords cs k ++ codeWords cs (Some g) ls)) ≡ all = rw q f in
     let c = split-length cs above k ls ks e in
     let h : length (headIf above g) ≡ length (headIf above (k .group)) = ap (λ (x : ℕ). length (headIf above x)) q in
-    let j : length (codeWords cs g ls) ≡ length (codeWords cs (k .group) ls) = ap (λ (x : ℕ). length (codeWords cs x ls)) q in
+    let j : length (codeWords cs (Some g) ls) ≡ length (codeWords cs (Some (k .group)) ls) = ap (λ (x : ℕ). length (codeWords cs (Some x) ls)) q in
     record {
-      front = wrote-on tape₁ (lineWords cs k) tape₂ all (codeWords cs g ls) at₁ at₂ b (wrote-on tape₀ (headIf above g) tape₁ all (lineWords cs k ++ codeWords cs g ls) at₀ at₁ a f′);
+      front = wrote-on tape₁ (lineWords cs k) tape₂ all (codeWords cs (Some g) ls) at₁ at₂ b (wrote-on tape₀ (headIf above g) tape₁ all (lineWords cs k ++ codeWords cs (Some g) ls) at₀ at₁ a f′);
       back = back-on tape₁ (lineWords cs k) tape₂ old at₁ at₂ b (back-on tape₀ (headIf above g) tape₁ old at₀ at₁ a (i .back));
       count = omega (arith, i .count, a .count, b .count);
       room = omega (arith, i .room);
     }
 
-pub left-all : (cs tape old : List ℕ) (at start above : ℕ) (ks ls : Program) → ks ≡ [] → Left cs tape at above ks (take start old ++ codeWords cs 0 ls) old (start + length (codeWords cs 0 ls)) → Wrote old start (codeWords cs 0 ls) tape at
+pub left-all : (cs tape old : List ℕ) (at start : ℕ) (above : Option ℕ) (ks ls : Program) → ks ≡ [] → Left cs tape at above ks (take start old ++ codeWords cs None ls) old (start + length (codeWords cs None ls)) → Wrote old start (codeWords cs None ls) tape at
 left-all cs tape old at start above ks ls e i =
-    let f : take at tape ++ [] ≡ take start old ++ codeWords cs 0 ls = subst (λ (x : Program). take at tape ++ codeWords cs above x ≡ take start old ++ codeWords cs 0 ls) e (i .front) in
+    let f : take at tape ++ [] ≡ take start old ++ codeWords cs None ls = subst (λ (x : Program). take at tape ++ codeWords cs above x ≡ take start old ++ codeWords cs None ls) e (i .front) in
     let c : length (codeWords cs above ks) ≡ 0 = ap (λ (x : Program). length (codeWords cs above x)) e in
     record { front = sym (append-nil (take at tape)) ∙ f; back = i .back; count = omega (arith, i .count) }

@@ -1,9 +1,8 @@
 -- What the survey holds of the lines above, the last one first.
 use Prim.Native.Nat.{ℕ, suc, _+_, _-_, _≤_}
 use mathlib.Core.Path.{_≡_}
-use mathlib.Core.Bool.{Bool, false, cond}
+use mathlib.Core.Bool.{Bool, false}
 use mathlib.Core.List.{List, [], _∷_, _++_, reverse}
-use lib.Dec.{eqb}
 use lib.ListN.{length, getD}
 use Rattle.std.specs.Results.{Cases}
 use Rattle.std.specs.declared.option.Option.{Option}
@@ -24,13 +23,14 @@ pub record Marks (g : Groups) (ks : List Line) : Type 0 where
   pub size : length (g .seen) ≡ 26
   pub each : (k : ℕ) → 65 ≤ k → k ≤ 90 → getD (g .seen) (k - 65) false ≡ has ks k
 
-abbrev pub lastGroup : List Line → ℕ
-lastGroup [] = 0
-lastGroup (k ∷ ks) = k .group
+abbrev pub lastGroup : List Line → Option ℕ
+lastGroup [] = None
+lastGroup (k ∷ ks) = Some (k .group)
 
 -- the line of the first instruction past the limit, if it stands above, else what the lines below give
-abbrev pub overOr : ℕ → Option Report → Option Report
-overOr o below = cond (eqb o 0) below (Some (report 9 o 0))
+abbrev pub overOr : Option ℕ → Option Report → Option Report
+overOr None below = below
+overOr (Some l) below = Some (report 9 l 0)
 
 pub record Counted (s : Survey) (above : List Line) : Type 0 where
   pub marks : Marks (s .groups) above
@@ -38,7 +38,7 @@ pub record Counted (s : Survey) (above : List Line) : Type 0 where
   pub lines : s .lines ≡ length above
   pub last : s .last ≡ lastGroup above
   pub over : (below : Program) → firstOver 0 1 (reverse above ++ below) ≡ overOr (s .over) (firstOver (s .instructions) (suc (length above)) below)
-  pub words : (cs : List ℕ) (below : Program) → length (codeWords cs 0 (reverse above ++ below)) ≡ s .heads + s .instructions + length (codeWords cs (lastGroup above) below)
+  pub words : (cs : List ℕ) (below : Program) → length (codeWords cs None (reverse above ++ below)) ≡ s .heads + s .instructions + length (codeWords cs (lastGroup above) below)
 
 abbrev pub Added : List ℕ → Text → List Line → Result (Unit {0}) TextRefusal → Survey → Type 0
 Added p t above r after = Cases r (λ _. (k : Line) × (parsedFrom (line p t) above ≡ parsedFrom t (k ∷ above)) × Counted after (k ∷ above)) (λ e. parsedFrom (line p t) above ≡ refused (reported e))

@@ -1,5 +1,6 @@
 pub mod Lines
 pub mod Held
+pub mod Onward
 pub mod Counted
 pub mod Scan
 pub mod Kept

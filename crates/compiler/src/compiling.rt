@@ -22,8 +22,8 @@ fn plan_of(text: &[u8]) -> Result<Plan, TextRefusal>
     if let Some(refusal) = inventory.past {
         return Err(refusal);
     }
-    if found.over > 0 {
-        return Err(TextRefusal::TooManyInstructions { line: found.over });
+    if let Some(line) = found.over {
+        return Err(TextRefusal::TooManyInstructions { line });
     }
     let length = 2 * inventory.constants.as_slice().len() + found.heads + found.instructions + 1;
     Ok(Plan {

@@ -1,26 +1,28 @@
 ghost use mathlib.Core.Path.{_≡_};
 ghost use mathlib.Core.Bool.{Bool, true, false, cond, not};
 ghost use Prim.Native.Nat.{ℕ, _-_, _≤_};
-ghost use lib.Dec.{eqb};
 ghost use lib.ListN.{getD, set, replicate};
+ghost use Rattle.std.specs.Options.{isSome};
+ghost use Rattle.std.specs.declared.option.Option.the-variants.{Some, None};
 ghost use Rattle.rules.specs.Reading.{between};
 ghost use Rattle.rules.specs.Texts.{closes as closesOf};
+ghost use Rattle.compiler.specs.Onward.{admits as admitsOf};
 use rules::formula::Target;
 
-// The letters that have a group, and the only letter that may come next, 0 where any new one may.
+// The letters that have a group, and the only letter that may come next, none where any new one may.
 #[derive(Drop)]
 pub(crate) struct Groups {
     pub(crate) seen: [bool; 26],
-    pub(crate) awaited: u8,
+    pub(crate) awaited: Option<u8>,
 }
 
 impl Groups {
     pub(crate) fn new() -> Groups
-        ensures { λ r. ⌜ (r .seen ≡ replicate 26 false) × (r .awaited ≡ 65) ⌝ }
+        ensures { λ r. ⌜ (r .seen ≡ replicate 26 false) × (r .awaited ≡ Some 65) ⌝ }
     {
         Groups {
             seen: [false; 26],
-            awaited: b'A',
+            awaited: Some(b'A'),
         }
     }
 
@@ -43,32 +45,31 @@ impl Groups {
     }
 
     pub(crate) fn all_closed(&self) -> bool
-        ensures { λ r. ⌜ r ≡ eqb (now (self .entry) .awaited) 0 ⌝ }
+        ensures { λ r. ⌜ r ≡ not (isSome (now (self .entry) .awaited)) ⌝ }
     {
-        self.awaited == 0
+        self.awaited.is_none()
     }
 
     // Whether a line of this group may come next.
     pub(crate) fn admits(&self, letter: u8) -> bool
         requires { ⌜ (65 ≤ letter) × (letter ≤ 90) ⌝ }
-        ensures { λ r. ⌜ r ≡ cond (eqb (now (self .entry) .awaited) 0) (not (getD (now (self .entry) .seen) (letter - 65) false)) (eqb letter (now (self .entry) .awaited)) ⌝ }
+        ensures { λ r. ⌜ r ≡ admitsOf (now (self .entry) .awaited) (now (self .entry) .seen) letter ⌝ }
     {
-        if self.awaited == 0 {
-            !self.has(letter)
-        } else {
-            letter == self.awaited
+        match self.awaited {
+            None => !self.has(letter),
+            Some(awaited) => letter == awaited,
         }
     }
 
     pub(crate) fn note(&mut self, letter: u8, target: Target)
         requires { ⌜ (65 ≤ letter) × (letter ≤ 90) ⌝ }
         ensures seen { λ _. ⌜ now (self .exit) .seen ≡ set (now (self .entry) .seen) (letter - 65) true ⌝ }
-        ensures awaited { λ _. ⌜ now (self .exit) .awaited ≡ cond (closesOf target) 0 letter ⌝ }
+        ensures awaited { λ _. ⌜ now (self .exit) .awaited ≡ cond (closesOf target) None (Some letter) ⌝ }
     {
         self.seen[(letter - b'A') as usize] = true;
         self.awaited = match target {
-            Target::Place => 0,
-            _ => letter,
+            Target::Place => None,
+            _ => Some(letter),
         };
     }
 }

@@ -7,12 +7,16 @@ ghost use lib.ListN.{length};
 ghost use Rattle.std.specs.Vec.{made};
 ghost use Rattle.rules.specs.Tree.{Line};
 ghost use Rattle.rules.specs.Texts.{Text, parsed};
+ghost use Rattle.std.specs.declared.option.Option.the-variants.{Some};
+ghost use Rattle.rules.specs.Words.{sameGroup};
 ghost use Rattle.rules.specs.Operations.{lineParts, sideOperations, sideCount};
 ghost use Rattle.reader.specs.Held.{held};
+ghost use Rattle.compiler.specs.Onward.{overWith};
 ghost use Rattle.compiler.specs.Counted.{Counted, Added, Ended, Surveyed};
 use crate::cutting::next_line;
 use crate::groups::Groups;
 use crate::survey::Survey;
+use crate::words::same_group;
 use reader::line::ReadLine;
 use reader::line::read_line;
 use rules::limits::INSTRUCTION_LIMIT;
@@ -29,8 +33,8 @@ impl Survey {
             lines: 0,
             instructions: 0,
             heads: 0,
-            over: 0,
-            last: 0,
+            over: None,
+            last: None,
         }
     }
 
@@ -40,19 +44,19 @@ impl Survey {
         ensures groups { λ _. ⌜ now (self .exit) .groups ≡ now (self .entry) .groups ⌝ }
         ensures lines { λ _. ⌜ now (self .exit) .lines ≡ now (self .entry) .lines + 1 ⌝ }
         ensures instructions { λ _. ⌜ now (self .exit) .instructions ≡ now (self .entry) .instructions + instructions ⌝ }
-        ensures heads { λ _. ⌜ now (self .exit) .heads ≡ now (self .entry) .heads + cond (eqb group (now (self .entry) .last)) 0 1 ⌝ }
-        ensures over { λ _. ⌜ now (self .exit) .over ≡ cond (eqb (now (self .entry) .over) 0) (cond (leb (now (self .entry) .instructions + instructions) 372) 0 (now (self .entry) .lines + 1)) (now (self .entry) .over) ⌝ }
-        ensures last { λ _. ⌜ now (self .exit) .last ≡ group ⌝ }
+        ensures heads { λ _. ⌜ now (self .exit) .heads ≡ now (self .entry) .heads + cond (sameGroup (now (self .entry) .last) group) 0 1 ⌝ }
+        ensures over { λ _. ⌜ now (self .exit) .over ≡ overWith (now (self .entry) .over) (leb (now (self .entry) .instructions + instructions) 372) (now (self .entry) .lines + 1) ⌝ }
+        ensures last { λ _. ⌜ now (self .exit) .last ≡ Some group ⌝ }
     {
         self.lines += 1;
         self.instructions += instructions;
-        if self.over == 0 && self.instructions > INSTRUCTION_LIMIT {
-            self.over = self.lines;
+        if self.over.is_none() && self.instructions > INSTRUCTION_LIMIT {
+            self.over = Some(self.lines);
         }
-        if group != self.last {
+        if !same_group(self.last, group) {
             self.heads += 1;
         }
-        self.last = group;
+        self.last = Some(group);
     }
 
     // Reads one line more.

@@ -5,7 +5,7 @@ ghost use lib.ListN.{length};
 ghost use Rattle.rules.specs.Tree.{Line};
 ghost use Rattle.rules.specs.Operations.{lineParts, sideOperations};
 ghost use Rattle.rules.specs.Cells.{atomAddress, sourceAddress, targetAddress, variableCell, letterCell};
-ghost use Rattle.rules.specs.Words.{word as wordOf, operationWord, operationWords, headIf, lineWords};
+ghost use Rattle.rules.specs.Words.{word as wordOf, operationWord, operationWords, sameGroup, headIf, lineWords};
 ghost use Rattle.reader.specs.Held.{held};
 ghost use Rattle.compiler.specs.Held.{table};
 ghost use Rattle.compiler.specs.Put.{Wrote};
@@ -126,12 +126,22 @@ fn put_operations(
     at + ops.len()
 }
 
+// Whether the line above, if there is one, is of this group.
+pub(crate) fn same_group(above: Option<u8>, group: u8) -> bool
+    ensures { λ r. ⌜ r ≡ sameGroup above group ⌝ }
+{
+    match above {
+        Some(letter) => group == letter,
+        None => false,
+    }
+}
+
 // Writes a group's head, where the line above is none of the group.
-pub(crate) fn put_head(group: u8, above: u8, tape: &mut [u64], at: usize) -> usize
+pub(crate) fn put_head(group: u8, above: Option<u8>, tape: &mut [u64], at: usize) -> usize
     requires { ⌜ at < length (now tape) ⌝ }
     ensures { λ r. ⌜ Wrote (now (tape .entry)) at (headIf above group) (now (tape .exit)) r ⌝ }
 {
-    if group == above {
+    if same_group(above, group) {
         return at;
     }
     put(

@@ -1,6 +1,7 @@
 ghost use mathlib.Core.Path.{_≡_};
 ghost use Prim.Native.Nat.{ℕ, _+_, _*_, _<_, _≤_};
 ghost use lib.ListN.{length};
+ghost use Rattle.std.specs.declared.option.Option.the-variants.{None};
 ghost use Rattle.rules.specs.Texts.{cut};
 ghost use Rattle.rules.specs.Words.{constantWords, codeWords, tapeOf};
 ghost use Rattle.compiler.specs.Held.{table};
@@ -32,17 +33,17 @@ fn put_constants(constants: &Constants, tape: &mut [u64]) -> usize
 
 // Reads the lines again and writes their words.
 fn put_lines(text: &[u8], constants: &Constants, tape: &mut [u64], start: usize) -> usize
-    requires { ⌜ start + length (codeWords (table (now constants)) 0 (readLines (cut (now text)))) < length (now tape) ⌝ }
-    ensures { λ r. ⌜ Wrote (now (tape .entry)) start (codeWords (table (now (constants .entry))) 0 (readLines (cut (now (text .entry))))) (now (tape .exit)) r ⌝ }
+    requires { ⌜ start + length (codeWords (table (now constants)) None (readLines (cut (now text)))) < length (now tape) ⌝ }
+    ensures { λ r. ⌜ Wrote (now (tape .entry)) start (codeWords (table (now (constants .entry))) None (readLines (cut (now (text .entry))))) (now (tape .exit)) r ⌝ }
 {
     let mut rest = text;
     let mut at = start;
-    let mut above = 0u8;
+    let mut above = None;
     while let Some((bytes, after)) = next_line(rest) {
         if let Ok(read) = read_line(bytes) {
             at = put_head(read.parts.group, above, tape, at);
             at = put_line(&read, constants, tape, at);
-            above = read.parts.group;
+            above = Some(read.parts.group);
         }
         rest = after;
     }

@@ -76,7 +76,7 @@ judged-well text ks ws h r e =
     let a = unless-none (firstLoose ks (programMentions 1 ks)) (unless (firstPast (programMentions 1 ks) []) (unless (firstOver 0 1 ks) (tape (tapeOf (constantsOf ks) ks)))) ws e in
     let b = unless-none (firstPast (programMentions 1 ks) []) (unless (firstOver 0 1 ks) (tape (tapeOf (constantsOf ks) ks))) ws (a .1) in
     let c = unless-none (firstOver 0 1 ks) (tape (tapeOf (constantsOf ks) ks)) ws (b .1) in
-    let g = ruled-groups ks (r .good) (r .follows) in
+    let g = ruled-groups ks (r .follows) in
     let n : instructions ks ≤ instructionLimit = omega (arith, none-over ks 0 1 (omega arith) (c .0)) in
     (record { groups = g .groups; lines = g .lines; more = g .more; firstA = g .firstA; distinct = g .distinct; inner = g .inner; good = r .good; short = r .short; grouped = none-loose ks (letters (g .groups)) (told ks (g .groups) (g .lines)) (programMentions 1 ks) (a .0); constants = none-past (programMentions 1 ks) [] (omega arith) (b .0); few = n; brief = subst (λ (o : List ℕ). length o ≤ textLimit) (r .writes) h }, sym (same-tape (c .1)))
 

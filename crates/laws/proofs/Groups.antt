@@ -1,5 +1,5 @@
 -- The rule of groups, line by line, holds of just the lines that are groups.
-use Prim.Native.Nat.{ℕ, _<_, _≤_}
+use Prim.Native.Nat.{ℕ}
 use mathlib.Core.Path.{_≡_, refl, sym, ap, subst, _∙_}
 use mathlib.Core.Bool.{Bool, true, false, not}
 use mathlib.Core.Logic.{inl, inr}
@@ -7,16 +7,16 @@ use mathlib.Core.List.{List, [], _∷_, _++_}
 use native.Mathlib.Omega.{arith}
 use lib.Dec.{eqb}
 use Rattle.std.proofs.shelf.Tests.{false≢true, both-ways, not-true, eqb-true, eq-eqb, ne-eqb, or-from, or-parts}
+use Rattle.std.specs.declared.option.Option.the-variants.{Some, None}
 use Rattle.rules.specs.declared.formula.Target.{Target}
 use Rattle.rules.specs.declared.formula.Target.the-variants.{Variable, Pointed, Label, Place}
 use Rattle.rules.specs.Tree.{Side, Line, Program}
 use Rattle.rules.specs.Texts.{closes, has, awaited, allowed}
-use Rattle.rules.specs.Programs.{GoodLine, Formula, Group, formulaLines, groupLines, letters, AllOf, In, Distinct, Inner, WellFormed}
-use Rattle.laws.proofs.Each.{all-back}
+use Rattle.rules.specs.Programs.{Formula, Group, formulaLines, groupLines, letters, AllOf, In, Distinct, Inner, WellFormed}
 
 -- each line may come after those above it, the last one first, and no group is open at the end
 abbrev pub Follows : List Line → Program → Type 0
-Follows above [] = awaited above ≡ 0
+Follows above [] = awaited above ≡ None
 Follows above (k ∷ ks) = (allowed above (k .group) ≡ true) × Follows (k ∷ above) ks
 
 abbrev Still : Formula → Type 0
@@ -28,39 +28,35 @@ lineOf g f = record { group = g; side = f .side; target = f .target }
 abbrev lastOf : ℕ → Side → Line
 lastOf g z = record { group = g; side = z; target = Place }
 
-may-open : (above : List Line) (g : ℕ) → awaited above ≡ 0 → has above g ≡ false → allowed above g ≡ true
+may-open : (above : List Line) (g : ℕ) → awaited above ≡ None → has above g ≡ false → allowed above g ≡ true
 may-open above g e h = rw (e, h)
 
-may-stay : (k : Line) (above : List Line) → closes (k .target) ≡ false → 0 < k .group → allowed (k ∷ above) (k .group) ≡ true
-may-stay k above e h = rw (e, ne-eqb (k .group) 0 (λ q. omega arith), eq-eqb (k .group) (k .group) refl)
+may-stay : (k : Line) (above : List Line) → closes (k .target) ≡ false → allowed (k ∷ above) (k .group) ≡ true
+may-stay k above e = rw (e, eq-eqb (k .group) (k .group) refl)
 
 has-not : (k : Line) (above : List Line) (x : ℕ) → has above x ≡ false → (k .group ≡ x → ⊥) → has (k ∷ above) x ≡ false
 has-not k above x h n = or-from (eqb (k .group) x) (has above x) (ne-eqb (k .group) x n) h
 
 -- From groups to the rule. A group's first line may come since its letter is new, the others since none before the last closes it.
 -- After the last line no group is open, and only this group's letter is no longer new.
-formulas-follow : (g : ℕ) (fs : List Formula) (z : Side) (rest : Program) (above : List Line) → 0 < g → allowed above g ≡ true → AllOf Still fs → ((v : List Line) → awaited v ≡ 0 → ((x : ℕ) → has above x ≡ false → (g ≡ x → ⊥) → has v x ≡ false) → Follows v rest) → Follows above (formulaLines g fs z ++ rest)
-formulas-follow g [] z rest above p a i more = (a, more (lastOf g z ∷ above) refl (λ x h n. has-not (lastOf g z) above x h n))
-formulas-follow g (f ∷ fs) z rest above p a i more = (a, formulas-follow g fs z rest (lineOf g f ∷ above) p (may-stay (lineOf g f) above (i .0) p) (i .1) (λ v e w. more v e (λ x h n. w x (has-not (lineOf g f) above x h n) n)))
-
-letter-some : (g : ℕ) (fs : List Formula) (z : Side) (rest : Program) → AllOf GoodLine (formulaLines g fs z ++ rest) → 0 < g
-letter-some g [] z rest a = let h : 65 ≤ g = a .0 .group .0 in omega arith
-letter-some g (f ∷ fs) z rest a = let h : 65 ≤ g = a .0 .group .0 in omega arith
+formulas-follow : (g : ℕ) (fs : List Formula) (z : Side) (rest : Program) (above : List Line) → allowed above g ≡ true → AllOf Still fs → ((v : List Line) → awaited v ≡ None → ((x : ℕ) → has above x ≡ false → (g ≡ x → ⊥) → has v x ≡ false) → Follows v rest) → Follows above (formulaLines g fs z ++ rest)
+formulas-follow g [] z rest above a i more = (a, more (lastOf g z ∷ above) refl (λ x h n. has-not (lastOf g z) above x h n))
+formulas-follow g (f ∷ fs) z rest above a i more = (a, formulas-follow g fs z rest (lineOf g f ∷ above) (may-stay (lineOf g f) above (i .0)) (i .1) (λ v e w. more v e (λ x h n. w x (has-not (lineOf g f) above x h n) n)))
 
 -- where the first line of all may come, and the other letters are new
-groups-follow : (g : Group) (gs : List Group) (above : List Line) → allowed above (g .letter) ≡ true → ((x : ℕ) → In x (letters gs) → has above x ≡ false) → Distinct (letters (g ∷ gs)) → AllOf Inner (g ∷ gs) → AllOf GoodLine (groupLines (g ∷ gs)) → Follows above (groupLines (g ∷ gs))
-groups-follow g [] above a f d i good = formulas-follow (g .letter) (g .formulas) (g .last) [] above (letter-some (g .letter) (g .formulas) (g .last) [] good) a (i .0) (λ v e w. e)
-groups-follow g (h ∷ gs) above a f d i good =
-    formulas-follow (g .letter) (g .formulas) (g .last) (groupLines (h ∷ gs)) above (letter-some (g .letter) (g .formulas) (g .last) (groupLines (h ∷ gs)) good) a (i .0) (λ v e w.
+groups-follow : (g : Group) (gs : List Group) (above : List Line) → allowed above (g .letter) ≡ true → ((x : ℕ) → In x (letters gs) → has above x ≡ false) → Distinct (letters (g ∷ gs)) → AllOf Inner (g ∷ gs) → Follows above (groupLines (g ∷ gs))
+groups-follow g [] above a f d i = formulas-follow (g .letter) (g .formulas) (g .last) [] above a (i .0) (λ v e w. e)
+groups-follow g (h ∷ gs) above a f d i =
+    formulas-follow (g .letter) (g .formulas) (g .last) (groupLines (h ∷ gs)) above a (i .0) (λ v e w.
     let fresh : (x : ℕ) → In x (letters (h ∷ gs)) → has v x ≡ false = (λ x n. w x (f x n) (λ s. d .0 (subst (λ (y : ℕ). In y (letters (h ∷ gs))) (sym s) n))) in
-    groups-follow h gs v (may-open v (h .letter) e (fresh (h .letter) (inl refl))) (λ x n. fresh x (inr n)) (d .1) (i .1) (all-back GoodLine (formulaLines (g .letter) (g .formulas) (g .last)) (groupLines (h ∷ gs)) good))
+    groups-follow h gs v (may-open v (h .letter) e (fresh (h .letter) (inl refl))) (λ x n. fresh x (inr n)) (d .1) (i .1))
 
 pub groups-ruled : (ks : Program) → WellFormed ks → Follows [] ks
-groups-ruled ks w = subst (Follows []) (sym (w .lines)) (start (w .groups) (w .more) (w .firstA) (w .distinct) (w .inner) (subst (AllOf GoodLine) (w .lines) (w .good)))
+groups-ruled ks w = subst (Follows []) (sym (w .lines)) (start (w .groups) (w .more) (w .firstA) (w .distinct) (w .inner))
   where
-    start : (gs : List Group) (more : List ℕ) → letters gs ≡ 65 ∷ more → Distinct (letters gs) → AllOf Inner gs → AllOf GoodLine (groupLines gs) → Follows [] (groupLines gs)
-    start [] more e d i good = let z : _≡_ {A = ℕ} 0 1 = cc in absurd (omega arith)
-    start (g ∷ gs) more e d i good = let q : g .letter ≡ 65 = cc in groups-follow g gs [] (eq-eqb (g .letter) 65 q) (λ x n. refl) d i good
+    start : (gs : List Group) (more : List ℕ) → letters gs ≡ 65 ∷ more → Distinct (letters gs) → AllOf Inner gs → Follows [] (groupLines gs)
+    start [] more e d i = let z : _≡_ {A = ℕ} 0 1 = cc in absurd (omega arith)
+    start (g ∷ gs) more e d i = let q : g .letter ≡ 65 = cc in groups-follow g gs [] (eq-eqb (g .letter) 65 q) (λ x n. refl) d i
 
 -- From the rule to groups: k and the lines after it are the rest of k's group and then groups whose letters no line so far has.
 pub record Begun (above : List Line) (k : Line) (ks : Program) : Type 0 where
@@ -90,9 +86,9 @@ as-last k e = ap (λ (t : Target). record { group = k .group; side = k .side; ta
 pub apart : (above : List Line) (k : Line) (ks : Program) (b : Begun above k ks) → In (k .group) (letters (b .groups)) → ⊥
 apart above k ks b n = both-ways (eqb (k .group) (k .group)) (or-parts (eqb (k .group) (k .group)) (has above (k .group)) (b .fresh (k .group) n) .0) (eq-eqb (k .group) (k .group) refl)
 
-ends : (k : Line) (above : List Line) (c : Bool) → closes (k .target) ≡ c → 0 < k .group → awaited (k ∷ above) ≡ 0 → Begun above k []
-ends k above true c p e = record { formulas = []; last = k .side; groups = []; lines = ap (λ (o : Line). o ∷ []) (as-last k c); inside = tt; distinct = tt; inner = tt; fresh = λ x n. absurd n }
-ends k above false c p e = let h : k .group ≡ 0 = rw c at e in absurd (omega arith)
+ends : (k : Line) (above : List Line) (c : Bool) → closes (k .target) ≡ c → awaited (k ∷ above) ≡ None → Begun above k []
+ends k above true c e = record { formulas = []; last = k .side; groups = []; lines = ap (λ (o : Line). o ∷ []) (as-last k c); inside = tt; distinct = tt; inner = tt; fresh = λ x n. absurd n }
+ends k above false c e = let h : Some (k .group) ≡ None = rw c at e in let z : _≡_ {A = ℕ} 0 1 = cc in absurd (omega arith)
 
 -- after a line that closes its group a new one begins
 opens : (k l : Line) (ks : Program) (above : List Line) → closes (k .target) ≡ true → allowed (k ∷ above) (l .group) ≡ true → Begun (k ∷ above) l ks → Begun above k (l ∷ ks)
@@ -101,22 +97,21 @@ opens k l ks above c a b =
     record { formulas = []; last = k .side; groups = groupOf (k ∷ above) l ks b ∷ b .groups; lines = ap (λ (o : Program). k ∷ o) (b .lines) ∙ ap (λ (o : Line). o ∷ (formulaLines (l .group) (b .formulas) (b .last) ++ groupLines (b .groups))) (as-last k c); inside = tt; distinct = (apart (k ∷ above) l ks b, b .distinct); inner = (b .inside, b .inner); fresh = λ x n. elim n [ inl e ↦ subst (λ (y : ℕ). has (k ∷ above) y ≡ false) (sym e) (not-true (has (k ∷ above) (l .group)) q) | inr m ↦ or-parts (eqb (l .group) x) (has (k ∷ above) x) (b .fresh x m) .1 ] }
 
 -- after another line its group goes on
-stays : (k l : Line) (ks : Program) (above : List Line) → closes (k .target) ≡ false → 0 < k .group → allowed (k ∷ above) (l .group) ≡ true → Begun (k ∷ above) l ks → Begun above k (l ∷ ks)
-stays k l ks above c p a b =
-    let s : eqb (k .group) 0 ≡ false = ne-eqb (k .group) 0 (λ q. omega arith) in
-    let t : eqb (l .group) (k .group) ≡ true = rw (c, s) at a in
+stays : (k l : Line) (ks : Program) (above : List Line) → closes (k .target) ≡ false → allowed (k ∷ above) (l .group) ≡ true → Begun (k ∷ above) l ks → Begun above k (l ∷ ks)
+stays k l ks above c a b =
+    let t : eqb (l .group) (k .group) ≡ true = rw c at a in
     let q : l .group ≡ k .group = eqb-true (l .group) (k .group) t in
     record { formulas = record { side = k .side; target = k .target } ∷ b .formulas; last = b .last; groups = b .groups; lines = ap (λ (o : Program). k ∷ o) (b .lines ∙ ap (λ (g : ℕ). formulaLines g (b .formulas) (b .last) ++ groupLines (b .groups)) q); inside = (c, b .inside); distinct = b .distinct; inner = b .inner; fresh = λ x n. or-parts (eqb (l .group) x) (has (k ∷ above) x) (b .fresh x n) .1 }
 
 -- By the lines from the last up: a line that closes its group stands before a new group, any other before the rest of its own.
 -- A letter that comes later is new there, and so it is new above.
-pub begun : (k : Line) (ks : Program) (above : List Line) → AllOf GoodLine (k ∷ ks) → Follows (k ∷ above) ks → Begun above k ks
-begun k [] above good f = let h : 65 ≤ k .group = good .0 .group .0 in ends k above (closes (k .target)) refl (omega arith) f
-begun k (l ∷ ks) above good f = let h : 65 ≤ k .group = good .0 .group .0 in by (closes (k .target)) refl (omega arith) (begun l ks (k ∷ above) (good .1) (f .1))
+pub begun : (k : Line) (ks : Program) (above : List Line) → Follows (k ∷ above) ks → Begun above k ks
+begun k [] above f = ends k above (closes (k .target)) refl f
+begun k (l ∷ ks) above f = by (closes (k .target)) refl (begun l ks (k ∷ above) (f .1))
   where
-    by : (c : Bool) → closes (k .target) ≡ c → 0 < k .group → Begun (k ∷ above) l ks → Begun above k (l ∷ ks)
-    by true c p b = opens k l ks above c (f .0) b
-    by false c p b = stays k l ks above c p (f .0) b
+    by : (c : Bool) → closes (k .target) ≡ c → Begun (k ∷ above) l ks → Begun above k (l ∷ ks)
+    by true c b = opens k l ks above c (f .0) b
+    by false c b = stays k l ks above c (f .0) b
 
 -- the groups of a program that the rule admits
 pub record InGroups (ks : Program) : Type 0 where
@@ -127,9 +122,9 @@ pub record InGroups (ks : Program) : Type 0 where
   pub distinct : Distinct (letters groups)
   pub inner : AllOf Inner groups
 
-pub ruled-groups : (ks : Program) → AllOf GoodLine ks → Follows [] ks → InGroups ks
-ruled-groups [] good f = absurd (omega arith)
-ruled-groups (k ∷ ks) good f =
-    let b = begun k ks [] good (f .1) in
+pub ruled-groups : (ks : Program) → Follows [] ks → InGroups ks
+ruled-groups [] f = let z : _≡_ {A = ℕ} 0 1 = cc in absurd (omega arith)
+ruled-groups (k ∷ ks) f =
+    let b = begun k ks [] (f .1) in
     let q : k .group ≡ 65 = eqb-true (k .group) 65 (f .0) in
     record { groups = groupOf [] k ks b ∷ b .groups; lines = b .lines; more = letters (b .groups); firstA = ap (λ (g : ℕ). g ∷ letters (b .groups)) q; distinct = (apart [] k ks b, b .distinct); inner = (b .inside, b .inner) }

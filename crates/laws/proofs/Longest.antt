@@ -10,12 +10,14 @@ use native.Mathlib.Omega.{arith}
 use lib.Dec.{eqb}
 use lib.ListN.{length}
 use Rattle.std.proofs.shelf.Tests.{false≢true, eqb-true, eqb-false, eq-eqb, or-cases}
+use Rattle.std.specs.declared.option.Option.{Option}
+use Rattle.std.specs.declared.option.Option.the-variants.{Some, None}
 use Rattle.rules.specs.declared.formula.Target.the-variants.{Place}
 use Rattle.rules.specs.Tree.{Side, Program}
 use Rattle.rules.specs.Texts.{has}
 use Rattle.rules.specs.Mentions.{constantsOf}
 use Rattle.rules.specs.Operations.{instructions}
-use Rattle.rules.specs.Words.{codeWords, tapeOf}
+use Rattle.rules.specs.Words.{sameGroup, codeWords, tapeOf}
 use Rattle.rules.specs.Programs.{IsLetter, GoodLine, Formula, Group, formulaLines, groupLines, letters, AllOf, In, Distinct, WellFormed}
 use Rattle.laws.specs.Longest.{LongestTape}
 use Rattle.laws.proofs.Limits.{letters-told}
@@ -68,13 +70,13 @@ letters-few : (gs : List Group) → Distinct (letters gs) → AllOf GoodLine (gr
 letters-few gs d a = distinct-few 26 65 (letters gs) d (λ x n. let g = good-has (groupLines gs) x a (letters-told gs x .1 n) in (g .0, omega arith))
 
 -- a head where the group begins, and none inside
-formulas-words : (cs : List ℕ) (above g : ℕ) (fs : List Formula) (z : Side) (rest : Program) (m : ℕ) → length (codeWords cs g rest) ≤ m + instructions rest → length (codeWords cs above (formulaLines g fs z ++ rest)) ≤ cond (eqb g above) 0 1 + m + instructions (formulaLines g fs z ++ rest)
+formulas-words : (cs : List ℕ) (above : Option ℕ) (g : ℕ) (fs : List Formula) (z : Side) (rest : Program) (m : ℕ) → length (codeWords cs (Some g) rest) ≤ m + instructions rest → length (codeWords cs above (formulaLines g fs z ++ rest)) ≤ cond (sameGroup above g) 0 1 + m + instructions (formulaLines g fs z ++ rest)
 formulas-words cs above g [] z rest m h = omega (arith, code-length cs above (record { group = g; side = z; target = Place }) rest)
-formulas-words cs above g (f ∷ fs) z rest m h = omega (arith, code-length cs above (record { group = g; side = f .side; target = f .target }) (formulaLines g fs z ++ rest), rw (eq-eqb g g refl) at (formulas-words cs g g fs z rest m h))
+formulas-words cs above g (f ∷ fs) z rest m h = omega (arith, code-length cs above (record { group = g; side = f .side; target = f .target }) (formulaLines g fs z ++ rest), rw (eq-eqb g g refl) at (formulas-words cs (Some g) g fs z rest m h))
 
-groups-words : (cs : List ℕ) (above : ℕ) (gs : List Group) → length (codeWords cs above (groupLines gs)) ≤ length (letters gs) + instructions (groupLines gs)
+groups-words : (cs : List ℕ) (above : Option ℕ) (gs : List Group) → length (codeWords cs above (groupLines gs)) ≤ length (letters gs) + instructions (groupLines gs)
 groups-words cs above [] = omega arith
-groups-words cs above (g ∷ gs) = by (eqb (g .letter) above) (formulas-words cs above (g .letter) (g .formulas) (g .last) (groupLines gs) (length (letters gs)) (groups-words cs (g .letter) gs))
+groups-words cs above (g ∷ gs) = by (sameGroup above (g .letter)) (formulas-words cs above (g .letter) (g .formulas) (g .last) (groupLines gs) (length (letters gs)) (groups-words cs (Some (g .letter)) gs))
   where
     by : (b : Bool) {n : ℕ} → n ≤ cond b 0 1 + length (letters gs) + instructions (groupLines (g ∷ gs)) → n ≤ length (letters (g ∷ gs)) + instructions (groupLines (g ∷ gs))
     by true h = omega arith
@@ -82,7 +84,7 @@ groups-words cs above (g ∷ gs) = by (eqb (g .letter) above) (formulas-words cs
 
 well-formed-words : (ks : Program) → WellFormed ks → length (tapeOf (constantsOf ks) ks) ≤ 491
 well-formed-words ks w =
-    let c : length (codeWords (constantsOf ks) 0 ks) ≤ length (letters (w .groups)) + instructions ks = subst (λ (o : Program). length (codeWords (constantsOf ks) 0 o) ≤ length (letters (w .groups)) + instructions o) (sym (w .lines)) (groups-words (constantsOf ks) 0 (w .groups)) in
+    let c : length (codeWords (constantsOf ks) None ks) ≤ length (letters (w .groups)) + instructions ks = subst (λ (o : Program). length (codeWords (constantsOf ks) None o) ≤ length (letters (w .groups)) + instructions o) (sym (w .lines)) (groups-words (constantsOf ks) None (w .groups)) in
     omega (arith, tape-length (constantsOf ks) ks, letters-few (w .groups) (w .distinct) (subst (AllOf GoodLine) (w .lines) (w .good)))
 
 pub longest-tape : LongestTape

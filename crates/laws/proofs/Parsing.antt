@@ -4,14 +4,15 @@ use mathlib.Core.Path.{_≡_, refl, sym, ap, subst, _∙_}
 use mathlib.Core.Bool.{Bool, true, false, cond}
 use mathlib.Core.List.{List, [], _∷_, _++_, reverse, reverse-cons, append-assoc, append-nil}
 use native.Mathlib.Omega.{arith}
-use lib.Dec.{eqb}
 use lib.ListN.{length}
-use Rattle.std.proofs.shelf.Tests.{le-leb, eqb-true}
+use Rattle.std.proofs.shelf.Tests.{le-leb}
+use Rattle.std.specs.declared.option.Option.{Option}
+use Rattle.std.specs.declared.option.Option.the-variants.{Some, None}
 use Rattle.rules.specs.Refusals.{report}
 use Rattle.rules.specs.Tree.{Line, Program}
 use Rattle.rules.specs.Written.{writtenLine, writtenText}
 use Rattle.rules.specs.Reading.{Read, got, fails, lineRead, lineLimit}
-use Rattle.rules.specs.Texts.{Text, tail, line, cut, awaited, allowed, program, refused, onLine, parsedFrom}
+use Rattle.rules.specs.Texts.{Text, tail, line, cut, awaited, allowed, endedBy, program, refused, onLine, parsedFrom}
 use Rattle.rules.specs.Programs.{GoodLine, AllOf}
 use Rattle.laws.proofs.Lines.{lines-read, lines-written, read-short}
 use Rattle.laws.proofs.Cutting.{uncut, cut-line}
@@ -42,7 +43,7 @@ one-line : (k : Line) (t : Text) (above : List Line) → GoodLine k → Short k 
 unfolding parsedFrom
 one-line k t above g h a = rw (le-leb (length (writtenLine k)) lineLimit h, lines-read k g, a)
 
-no-line : (above : List Line) → awaited above ≡ 0 → parsedFrom (tail []) above ≡ program (reverse above)
+no-line : (above : List Line) → awaited above ≡ None → parsedFrom (tail []) above ≡ program (reverse above)
 unfolding parsedFrom
 no-line above e = rw e
 
@@ -54,15 +55,15 @@ parses (k ∷ ks) above g h f =
     ap (λ (t : Text). parsedFrom t above) (cut-line k (writtenText ks) (g .0))
     ∙ (one-line k (cut (writtenText ks)) above (g .0) (h .0) (f .0) ∙ (parses ks (k ∷ above) (g .1) (h .1) (f .1) ∙ ap program (reverse-onto k above ks)))
 
-at-end : (b : Bool) (above ks : List Line) (n : ℕ) → eqb (awaited above) 0 ≡ b → cond b (program (reverse above)) (refused (report 6 n 0)) ≡ program ks → Shows (tail []) above ks
-at-end true above ks n h e = record { lines = []; whole = sym (same-program e) ∙ sym (append-nil (reverse above)); good = tt; short = tt; follows = eqb-true (awaited above) 0 h; text = refl }
-at-end false above ks n h e = let z : _≡_ {A = ℕ} 0 1 = cc in absurd (omega arith)
+at-end : (o : Option ℕ) (above ks : List Line) → awaited above ≡ o → endedBy o above ≡ program ks → Shows (tail []) above ks
+at-end None above ks h e = record { lines = []; whole = sym (same-program e) ∙ sym (append-nil (reverse above)); good = tt; short = tt; follows = h; text = refl }
+at-end (Some a) above ks h e = let z : _≡_ {A = ℕ} 0 1 = cc in absurd (omega arith)
 
 -- The way back: a test that fails ends in a refusal, so on the way to a program each was passed.
 -- What a line was read as writes just that line, so the lines write the text.
 pub shows : (t : Text) (above ks : List Line) → parsedFrom t above ≡ program ks → Shows t above ks
 unfolding parsedFrom
-shows (tail []) above ks e = at-end (eqb (awaited above) 0) above ks _ refl e
+shows (tail []) above ks e = at-end (awaited above) above ks refl e
 shows (tail (x ∷ xs)) above ks e = let z : _≡_ {A = ℕ} 0 1 = cc in absurd (omega arith)
 shows (line p t) above ks e = known (λ (v : List Line) f. shows t v ks f) (lineRead p) refl e
   where

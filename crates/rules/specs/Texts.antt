@@ -4,6 +4,8 @@ use mathlib.Core.Bool.{Bool, true, false, cond, not, _||_}
 use mathlib.Core.List.{List, [], _∷_, reverse}
 use lib.Dec.{eqb, leb}
 use lib.ListN.{length}
+use Rattle.std.specs.declared.option.Option.{Option}
+use Rattle.std.specs.declared.option.Option.the-variants.{Some, None}
 use Rattle.rules.specs.declared.formula.Target.{Target}
 use Rattle.rules.specs.declared.formula.Target.the-variants.{Variable, Pointed, Label, Place}
 use Rattle.rules.specs.declared.refusal.Report.{Report}
@@ -39,21 +41,30 @@ abbrev pub has : List Line → ℕ → Bool
 has [] g = false
 has (k ∷ ks) g = eqb (k .group) g || has ks g
 
--- the only letter that may come after the lines above, the last one first; 0 where any new one may
-abbrev pub awaited : List Line → ℕ
-awaited [] = 65
-awaited (k ∷ ks) = cond (closes (k .target)) 0 (k .group)
+-- the only letter that may come after the lines above, the last one first; none where any new one may
+abbrev pub awaited : List Line → Option ℕ
+awaited [] = Some 65
+awaited (k ∷ ks) = cond (closes (k .target)) None (Some (k .group))
+
+abbrev pub allowedBy : Option ℕ → List Line → ℕ → Bool
+allowedBy None above g = not (has above g)
+allowedBy (Some a) above g = eqb g a
 
 abbrev pub allowed : List Line → ℕ → Bool
-allowed above g = cond (eqb (awaited above) 0) (not (has above g)) (eqb g (awaited above))
+allowed above g = allowedBy (awaited above) above g
 
 pub data Parsed : Type 0 where
   program : Program → Parsed
   refused : Report → Parsed
 
--- after the last line end nothing may stand, and no group may be open
+-- no group may be open
+abbrev pub endedBy : Option ℕ → List Line → Parsed
+endedBy None above = program (reverse above)
+endedBy (Some a) above = refused (report 6 (suc (length above)) 0)
+
+-- after the last line end nothing may stand
 abbrev pub ended : List ℕ → List Line → Parsed
-ended [] above = cond (eqb (awaited above) 0) (program (reverse above)) (refused (report 6 (suc (length above)) 0))
+ended [] above = endedBy (awaited above) above
 ended (x ∷ xs) above = refused (report 2 (suc (length above)) (cond (leb (length (x ∷ xs)) lineLimit) (suc (length (x ∷ xs))) 81))
 
 -- a line of so many bytes, by what reading it gave

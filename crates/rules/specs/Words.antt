@@ -1,8 +1,10 @@
 -- The words of a program, and its tape.
 use Prim.Native.Nat.{ℕ, suc, _+_, _*_, _^_}
-use mathlib.Core.Bool.{cond}
+use mathlib.Core.Bool.{Bool, false, cond}
 use mathlib.Core.List.{List, [], _∷_, _++_}
 use lib.Dec.{eqb}
+use Rattle.std.specs.declared.option.Option.{Option}
+use Rattle.std.specs.declared.option.Option.the-variants.{Some, None}
 use Rattle.rules.specs.declared.operation.Operation.{Operation}
 use Rattle.rules.specs.Codes.{codeOf, transferCode}
 use Rattle.rules.specs.Tree.{Side, reading, single, both, Line, Program}
@@ -42,14 +44,19 @@ headMark = 999
 abbrev pub headWord : ℕ → ℕ
 headWord g = word 0 transferCode headMark (letterCell g)
 
--- a group begins where the letter is not that of the line above
-abbrev pub headIf : ℕ → ℕ → List ℕ
-headIf above g = cond (eqb g above) [] (headWord g ∷ [])
+-- the line above, if there is one, is of this group
+abbrev pub sameGroup : Option ℕ → ℕ → Bool
+sameGroup None g = false
+sameGroup (Some a) g = eqb g a
 
--- for each group the head and then its words, after a line of the group `above`
-abbrev pub codeWords : List ℕ → ℕ → Program → List ℕ
+-- a group begins where the line above is of another
+abbrev pub headIf : Option ℕ → ℕ → List ℕ
+headIf above g = cond (sameGroup above g) [] (headWord g ∷ [])
+
+-- for each group the head and then its words; `above` is the letter of the line above
+abbrev pub codeWords : List ℕ → Option ℕ → Program → List ℕ
 codeWords cs above [] = []
-codeWords cs above (k ∷ ks) = headIf above (k .group) ++ (lineWords cs k ++ codeWords cs (k .group) ks)
+codeWords cs above (k ∷ ks) = headIf above (k .group) ++ (lineWords cs k ++ codeWords cs (Some (k .group)) ks)
 
 -- the code of a word that a constant follows
 abbrev pub constantCode : ℕ
@@ -65,4 +72,4 @@ constantWords i (n ∷ ns) = word 0 constantCode 0 (constantCell i) ∷ (n ∷ c
 
 -- constants, groups, the end word
 unfoldable pub tapeOf : List ℕ → Program → List ℕ
-tapeOf cs ks = constantWords 0 cs ++ (codeWords cs 0 ks ++ (endWord ∷ []))
+tapeOf cs ks = constantWords 0 cs ++ (codeWords cs None ks ++ (endWord ∷ []))

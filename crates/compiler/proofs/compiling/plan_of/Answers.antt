@@ -32,18 +32,18 @@ returns-in-Some c =
     let f = found (c .in-Continue-found .found) (c .args .text .now) (s .0) (c .in-Continue-inventory .inventory) (c .if-text-gt-TEXT-LIMIT .left) (s .1) (s .2) (c .in-Continue-inventory .ensures tt) in
     compiled-past (c .args .text .now) (s .0) (c .in-Continue-inventory .inventory) _ f (ap shown (c .in-Some .is))
 
-pub returns-then-found-gt0 : need.returns-then-found-gt0
-returns-then-found-gt0 c =
+pub returns-in-Some-over : need.returns-in-Some-over
+returns-in-Some-over c =
     let s = c .in-Continue-found .ensures tt in
     let f = found (c .in-Continue-found .found) (c .args .text .now) (s .0) (c .in-Continue-inventory .inventory) (c .if-text-gt-TEXT-LIMIT .left) (s .1) (s .2) (c .in-Continue-inventory .ensures tt) in
-    compiled-over (c .in-Continue-found .found) (c .args .text .now) (s .0) (c .in-Continue-inventory .inventory) f (c .in-rest .is) (s .2) (c .if-found-gt0 .taken)
+    compiled-over (c .in-Continue-found .found) (c .args .text .now) (s .0) (c .in-Continue-inventory .inventory) (c .in-Some-over .line) f (c .in-rest .is) (s .2) (c .in-Some-over .is)
 
 pub returns : need.returns
 returns c =
     let s = c .in-Continue-found .ensures tt in
     let f = found (c .in-Continue-found .found) (c .args .text .now) (s .0) (c .in-Continue-inventory .inventory) (c .if-text-gt-TEXT-LIMIT .left) (s .1) (s .2) (c .in-Continue-inventory .ensures tt) in
     record {
-      is = compiled-tape (c .in-Continue-found .found) (c .args .text .now) (s .0) (c .in-Continue-inventory .inventory) f (c .in-rest .is) (s .2) (c .if-found-gt0 .left);
+      is = compiled-tape (c .in-Continue-found .found) (c .args .text .now) (s .0) (c .in-Continue-inventory .inventory) f (c .in-rest .is) (s .2) (c .in-rest-over .is);
       readable = readable (c .args .text .now) (s .0) (s .1);
       length = its-length (c .in-Continue-found .found) (c .args .text .now) (s .0) (table (c .in-Continue-inventory .inventory .constants)) _ (s .1) (s .2) (ap length (c .as-slice .ensures .value));
     }
