@@ -5,7 +5,7 @@
 use Prim.Native.Nat.{ℕ, suc, _+_, _-_, _*_, _<_, _≤_}
 use mathlib.Core.Path.{_≡_, refl, sym, ap, subst, _∙_}
 use mathlib.Core.Bool.{Bool, true, false, cond, _||_}
-use mathlib.Core.List.{List, [], _∷_, _++_, reverse, append-assoc, append-nil}
+use mathlib.Core.List.{List, [], _∷_, _++_, reverse, append-nil}
 use native.Mathlib.Omega.{arith}
 use lib.Dec.{eqb, leb}
 use lib.ListN.{length, take, drop}
@@ -18,7 +18,7 @@ use Rattle.std.specs.declared.result.Result.the-variants.{Ok, Err}
 use Rattle.rules.specs.declared.refusal.TextRefusal.{TextRefusal}
 use Rattle.rules.specs.declared.refusal.TextRefusal.the-variants.{TapeTooShort}
 use Rattle.rules.specs.declared.refusal.Report.{Report}
-use Rattle.rules.specs.Refusals.{report, reported, placed}
+use Rattle.rules.specs.Refusals.{report, reported}
 use Rattle.rules.specs.Tree.{Line, Program}
 use Rattle.rules.specs.Reading.{Read, got, fails, lineRead}
 use Rattle.rules.specs.Texts.{Text, tail, line, cut, has, awaited, allowed, endedBy, onLine, Parsed, program, refused, parsedFrom, parsed}

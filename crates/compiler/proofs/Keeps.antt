@@ -1,29 +1,29 @@
 -- What the inventory makes of each letter and constant.
 -- It meets the mentions one after another, so meeting two lists in turn is meeting them joined. Once a constant found no place
 -- nothing changes any more, and a letter never changes the constants: so the first refusal stays the first.
-use Prim.Native.Nat.{ℕ, suc, _+_, _-_, _<_, _≤_}
+use Prim.Native.Nat.{ℕ, suc, _+_, _-_, _≤_}
 use mathlib.Core.Path.{_≡_, refl, sym, ap, _∙_}
 use mathlib.Core.Bool.{Bool, true, false, cond, not}
 use mathlib.Core.List.{List, [], _∷_, _++_}
 use native.Mathlib.Omega.{arith}
 use lib.Dec.{leb}
 use lib.ListN.{length, getD, drop}
-use Rattle.std.proofs.shelf.Lists.{getD-drop, drop-drop, drop-all}
-use Rattle.std.proofs.shelf.Tests.{le-leb, leb-true}
+use Rattle.std.proofs.shelf.Lists.{drop-drop, drop-all}
+use Rattle.std.proofs.shelf.Tests.{le-leb}
 use Rattle.std.proofs.shelf.Ways.{tells}
 use Rattle.std.specs.declared.option.Option.{Option}
 use Rattle.std.specs.declared.option.Option.the-variants.{Some, None}
-use Rattle.rules.specs.declared.formula.Atom.the-variants.{Letter, Constant}
+use Rattle.rules.specs.declared.formula.Atom.the-variants.{Letter}
 use Rattle.rules.specs.declared.refusal.Report.{Report}
 use Rattle.rules.specs.Refusals.{report}
 use Rattle.rules.specs.Tree.{Program}
 use Rattle.rules.specs.Reading.{Read, got, fails, first, between, isDigit, constantAt}
 use Rattle.rules.specs.Texts.{has}
-use Rattle.rules.specs.Mentions.{Mention, mention, noting, noted, grouped, firstLoose, firstPast, different}
+use Rattle.rules.specs.Mentions.{Mention, mention, noting, grouped, firstLoose, firstPast, different}
 use Rattle.compiler.specs.declared.groups.Groups.{Groups}
 use Rattle.compiler.specs.Counted.{Marks}
 use Rattle.compiler.specs.Scan.{scan, found}
-use Rattle.compiler.specs.Kept.{Kept, keepOn, keep, tallied, start}
+use Rattle.compiler.specs.Kept.{Kept, keepOn, keep, tallied}
 
 pub tallied-append : (ms ns : List Mention) (k : Kept) → tallied (ms ++ ns) k ≡ tallied ns (tallied ms k)
 tallied-append [] ns k = refl

@@ -1,14 +1,13 @@
 -- Reading the lines again: what is left of the text gives what is left to do.
 -- The first reading showed that each line can be read, so cutting off one line takes one line off the program.
 use Prim.Native.Nat.{ℕ, suc, _+_, _≤_}
-use mathlib.Core.Path.{_≡_, refl, sym, ap, subst, _∙_}
+use mathlib.Core.Path.{_≡_, sym, ap, subst, _∙_}
 use mathlib.Core.Bool.{false}
 use mathlib.Core.List.{List, [], _∷_, _++_}
-use native.Mathlib.Omega.{arith}
 use lib.ListN.{length, drop}
 use Rattle.rules.specs.declared.refusal.Fault.{Fault}
-use Rattle.rules.specs.Tree.{Line, Program}
-use Rattle.rules.specs.Reading.{Read, got, fails, lineRead}
+use Rattle.rules.specs.Tree.{Line}
+use Rattle.rules.specs.Reading.{got, fails, lineRead}
 use Rattle.rules.specs.Texts.{Text, tail, line}
 use Rattle.rules.specs.Mentions.{Mention, programMentions}
 use Rattle.compiler.specs.Lines.{readLines, Readable}

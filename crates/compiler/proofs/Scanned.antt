@@ -6,7 +6,7 @@ use mathlib.Core.Path.{_≡_, refl, sym, ap, _∙_}
 use mathlib.Core.Bool.{Bool, true, false, cond}
 use mathlib.Core.List.{List, [], _∷_, _++_, append-assoc, append-nil}
 use native.Mathlib.Omega.{arith}
-use lib.ListN.{length, getD, drop}
+use lib.ListN.{length, drop}
 use Rattle.std.proofs.shelf.Lists.{length-append}
 use Rattle.std.proofs.shelf.Ways.{tells}
 use Rattle.std.specs.Written.{decimal}
@@ -18,7 +18,7 @@ use Rattle.rules.specs.declared.formula.Target as targets
 use Rattle.rules.specs.declared.formula.Target.the-variants as t
 use Rattle.rules.specs.Codes.{signByte}
 use Rattle.rules.specs.Tree.{Operand, atom, pair, Side, reading, single, both, Line}
-use Rattle.rules.specs.Written.{writtenAtom, written, writtenSide, writtenTarget, writtenLine}
+use Rattle.rules.specs.Written.{writtenAtom, written, writtenSide, writtenTarget}
 use Rattle.rules.specs.Reading.{Read, got, between, isDigit, digitRun, Digits, constantAt, lineRead}
 use Rattle.rules.specs.Programs.{GoodAtom, GoodOperand, GoodSide, GoodTarget}
 use Rattle.rules.specs.Mentions.{Mention, mention, atomMentions, mentions, sideMentions}

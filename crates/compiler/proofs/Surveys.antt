@@ -2,10 +2,10 @@
 -- The two counts, of instructions and of words, are facts about any lines below: reading one line more only uses such a fact
 -- at that line put before the others. So nothing has to be said of a list that grows at its end.
 use Prim.Native.Nat.{ℕ, suc, _+_, _-_, _<_, _≤_}
-use mathlib.Core.Path.{_≡_, refl, sym, ap, subst, _∙_}
-use mathlib.Core.Logic.{_≢_, _⊎_, inl, inr}
+use mathlib.Core.Path.{_≡_, refl, sym, ap, _∙_}
+use mathlib.Core.Logic.{_≢_, inl, inr}
 use mathlib.Core.Bool.{Bool, true, false, cond, not, _||_}
-use mathlib.Core.List.{List, [], _∷_, _++_, reverse, append-assoc, append-nil}
+use mathlib.Core.List.{List, [], _∷_, reverse}
 use native.Mathlib.Omega.{arith}
 use lib.Dec.{eqb, leb}
 use lib.ListN.{length, getD, set, replicate}
@@ -22,7 +22,7 @@ use Rattle.rules.specs.declared.operation.SideKind as kinds
 use Rattle.rules.specs.declared.operation.SideKind.the-variants.{Pair}
 use Rattle.rules.specs.declared.operation.LineParts.{LineParts}
 use Rattle.rules.specs.Tree.{Side, reading, single, both, Line, Program}
-use Rattle.rules.specs.Reading.{Read, got, fails, lineAt, lineRead}
+use Rattle.rules.specs.Reading.{got, fails, lineRead}
 use Rattle.rules.specs.Texts.{Text, tail, line, has, awaited, allowedBy, allowed, closes, program, refused, parsedFrom}
 use Rattle.rules.specs.Operations.{lineParts, sideKind, sideOperations, sideCount, firstOver}
 use Rattle.rules.specs.Words.{sameGroup, codeWords}

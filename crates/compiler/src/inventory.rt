@@ -1,9 +1,8 @@
 ghost use mathlib.Core.Path.{_≡_};
 ghost use mathlib.Core.Bool.{false};
-ghost use mathlib.Core.List.{List, []};
-ghost use Prim.Native.Nat.{ℕ, _<_, _≤_};
+ghost use mathlib.Core.List.{List};
+ghost use Prim.Native.Nat.{_<_, _≤_};
 ghost use lib.ListN.{length, drop};
-ghost use Rattle.rules.specs.declared.formula.Atom.the-variants.{Constant};
 ghost use Rattle.rules.specs.Reading.{constantAt};
 ghost use Rattle.rules.specs.Texts.{cut};
 ghost use Rattle.rules.specs.Mentions.{Mention, programMentions};

@@ -2,7 +2,7 @@
 use Prim.Native.Nat.{ℕ, suc, _+_, _*_}
 use mathlib.Core.Path.{_≡_, refl, ap}
 use mathlib.Core.Bool.{Bool, true, false, cond}
-use mathlib.Core.List.{List, [], _∷_, _++_}
+use mathlib.Core.List.{List, [], _∷_}
 use native.Mathlib.Omega.{arith}
 use lib.ListN.{length}
 use Rattle.std.proofs.shelf.Lists.{length-append}
@@ -12,7 +12,7 @@ use Rattle.rules.specs.declared.operation.Operation.{Operation}
 use Rattle.rules.specs.Tree.{Side, reading, single, both, Line, Program}
 use Rattle.rules.specs.Operations.{sideOperations, sideCount}
 use Rattle.rules.specs.Cells.{targetAddress}
-use Rattle.rules.specs.Words.{operationWords, sideWords, lineWords, sameGroup, headIf, headWord, codeWords, constantWords, tapeOf}
+use Rattle.rules.specs.Words.{operationWords, sideWords, sameGroup, headIf, headWord, codeWords, constantWords, tapeOf}
 
 pub operations-length : (cs : List ℕ) (er : ℕ) (os : List Operation) → length (operationWords cs er os) ≡ length os
 operations-length cs er [] = refl

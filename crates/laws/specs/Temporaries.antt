@@ -1,5 +1,5 @@
 -- The cells for results that wait, 500 to 515, are enough for every line.
-use Prim.Native.Nat.{ℕ, _≤_}
+use Prim.Native.Nat.{_≤_}
 use lib.ListN.{length}
 use Rattle.rules.specs.declared.operation.Source.{Source}
 use Rattle.rules.specs.declared.operation.Source.the-variants.{Named, Temporary}

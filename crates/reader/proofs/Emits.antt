@@ -12,7 +12,7 @@ use Rattle.rules.specs.declared.sign.Sign.{Sign}
 use Rattle.rules.specs.declared.operation.Source.{Source}
 use Rattle.rules.specs.declared.operation.Operation.{Operation}
 use Rattle.rules.specs.Tree.{Operand, pair}
-use Rattle.rules.specs.Reading.{Read, got, operandAt, secondAt, pairAt}
+use Rattle.rules.specs.Reading.{got, operandAt, secondAt, pairAt}
 use Rattle.rules.specs.Operations.{source, waitingAfter, operations}
 use Rattle.reader.specs.declared.failure.Failure.{Failure}
 use Rattle.reader.specs.declared.operations.Operations.{Operations}

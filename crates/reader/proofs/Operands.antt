@@ -1,6 +1,6 @@
 -- How the reading of an operand unfolds at each way out of the code.
 use Prim.Native.Nat.{ℕ, zero, suc, _-_, _<_}
-use mathlib.Core.Path.{_≡_, refl}
+use mathlib.Core.Path.{_≡_}
 use mathlib.Core.List.{List, [], _∷_}
 use native.Mathlib.Omega.{arith}
 use lib.ListN.{length, drop, take}
@@ -10,8 +10,8 @@ use Rattle.rules.specs.declared.formula.Atom.the-variants as a
 use Rattle.rules.specs.declared.formula.Start.the-variants as s
 use Rattle.rules.specs.declared.refusal.Fault.{Fault}
 use Rattle.rules.specs.declared.refusal.Fault.the-variants.{ByteOutOfPlace, NestedTooDeep}
-use Rattle.rules.specs.Tree.{Operand, atom, pair}
-use Rattle.rules.specs.Reading.{Read, got, fails, first, start, digitRun, variableAt, constantAt, byteAt, closedBy, insideAt, operandAt, pairAt}
+use Rattle.rules.specs.Tree.{Operand, atom}
+use Rattle.rules.specs.Reading.{got, fails, first, start, digitRun, variableAt, constantAt, byteAt, closedBy, insideAt, operandAt, pairAt}
 
 -- what `[_, rest @ ..]` names
 abbrev pub rest : List ℕ → List ℕ

@@ -9,7 +9,6 @@ use lib.ListN.{length, drop, take, getD}
 use Rattle.std.proofs.shelf.Lists.{take-rest}
 use Rattle.std.proofs.shelf.Tests.{ne-eqb}
 use Rattle.std.proofs.shelf.Ways.{tells}
-use Rattle.std.specs.declared.option.Option.{Option}
 use Rattle.std.specs.declared.option.Option.the-variants.{Some, None}
 use Rattle.rules.specs.declared.sign.Sign.{Sign}
 use Rattle.rules.specs.declared.formula.Atom.{Atom}
@@ -24,8 +23,8 @@ use Rattle.rules.specs.declared.operation.LineParts.{LineParts}
 use Rattle.rules.specs.declared.operation.Operation.{Operation}
 use Rattle.rules.specs.declared.refusal.Fault.{Fault}
 use Rattle.rules.specs.declared.refusal.Fault.the-variants.{ByteOutOfPlace}
-use Rattle.rules.specs.Tree.{Operand, atom, pair, Side, reading, single, both, Line}
-use Rattle.rules.specs.Reading.{Read, got, fails, first, start, variableAt, byteAt, openingAt, operandAt, secondAt, sideAt, targetAt, lineAt}
+use Rattle.rules.specs.Tree.{Operand, atom, pair, Side, reading, single, both}
+use Rattle.rules.specs.Reading.{got, fails, first, start, variableAt, byteAt, openingAt, operandAt, secondAt, sideAt, targetAt, lineAt}
 use Rattle.rules.specs.Operations.{source, operations, sideKind, sideOperations, lineParts}
 use Rattle.reader.specs.Sides.{alone}
 use Rattle.reader.proofs.Operands.{rest}

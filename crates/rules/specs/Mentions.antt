@@ -11,7 +11,7 @@ use Rattle.rules.specs.declared.formula.Atom.{Atom}
 use Rattle.rules.specs.declared.formula.Atom.the-variants.{Variable, Pointed, Letter, Constant}
 use Rattle.rules.specs.declared.refusal.Report.{Report}
 use Rattle.rules.specs.Refusals.{report}
-use Rattle.rules.specs.Tree.{Operand, atom, pair, Side, reading, single, both, Line, Program}
+use Rattle.rules.specs.Tree.{Operand, atom, pair, Side, reading, single, both, Program}
 use Rattle.rules.specs.Written.{written}
 use Rattle.rules.specs.Texts.{has}
 

@@ -1,5 +1,5 @@
 ghost use mathlib.Core.Path.{_≡_};
-ghost use Prim.Native.Nat.{ℕ, _<_, _≤_};
+ghost use Prim.Native.Nat.{_<_};
 ghost use Rattle.rules.specs.Codes.{codeTable, signOf, signRow, transferRow};
 use crate::sign::CodeRow;
 use crate::sign::Sign;

@@ -9,9 +9,7 @@ use lib.Dec.{leb}
 use lib.ListN.{length, take, drop}
 use Rattle.std.proofs.shelf.Lists.{take-at}
 use Rattle.std.proofs.shelf.Tests.{le-leb}
-use Rattle.std.specs.declared.result.Result.{Result}
 use Rattle.std.specs.declared.result.Result.the-variants.{Ok, Err}
-use Rattle.rules.specs.declared.refusal.Report.{Report}
 use Rattle.rules.specs.declared.refusal.TextRefusal.{TextRefusal}
 use Rattle.rules.specs.Refusals.{report, reported}
 use Rattle.rules.specs.Compiled.{Outcome, tape, refuse, compiled, told, answered, buffered}

@@ -1,6 +1,6 @@
 use native.Mathlib.Omega.{arith}
 use native.Mathlib.Numerals.{add-one}
-use mathlib.Core.Path.{_≡_, refl, sym, ap, _∙_}
+use mathlib.Core.Path.{refl, sym, ap, _∙_}
 use mathlib.Core.Bool.{false}
 use mathlib.Core.List.{List}
 use Prim.Native.Nat.{ℕ, suc}
@@ -11,7 +11,7 @@ use Rattle.rules.specs.Texts.{cut}
 use Rattle.rules.specs.Mentions.{Mention, programMentions, firstLoose}
 use Rattle.compiler.specs.Lines.{readLines}
 use Rattle.compiler.specs.Scan.{scan}
-use Rattle.compiler.specs.Kept.{Kept, kept, tallied, start}
+use Rattle.compiler.specs.Kept.{kept, tallied}
 use Rattle.compiler.proofs.Keeps.{tallied-append, loose-on, loose-stays}
 use Rattle.compiler.proofs.Rereads.{readable-parts, parts-short, lines-tail, mentions-line}
 use Rattle.compiler.proofs.inventory.take_inventory.Needs as need

@@ -1,8 +1,6 @@
-use borrow.Author.Needs.{needs}
 use native.Mathlib.Omega.{arith}
-use mathlib.Core.Path.{_≡_, refl, ap, _∙_}
-use mathlib.Core.List.{[], _∷_}
-use Rattle.std.proofs.shelf.Results.{err-from-errBy}
+use mathlib.Core.Path.{ap, _∙_}
+use mathlib.Core.List.{_∷_}
 use Rattle.rules.specs.Texts.{Text, cut, parsedFrom}
 use Rattle.compiler.proofs.surveying.survey.Needs as need
 

@@ -1,6 +1,6 @@
 use borrow.Author.Needs.{needs}
 use native.Mathlib.Omega.{arith}
-use mathlib.Core.Path.{_≡_, refl, ap, _∙_}
+use mathlib.Core.Path.{refl, ap}
 use Rattle.rules.specs.declared.operation.LineParts.{LineParts}
 use Rattle.rules.specs.Texts.{cut}
 use Rattle.compiler.specs.Held.{table}

@@ -1,4 +1,4 @@
-use mathlib.Core.Path.{_≡_, refl, ap, _∙_}
+use mathlib.Core.Path.{refl, ap, _∙_}
 use Rattle.rules.specs.declared.operation.LineParts.{LineParts}
 use Rattle.compiler.specs.declared.groups.Groups.{Groups}
 use Rattle.compiler.proofs.Surveys.{misread-line, forbidden-line, allowed-line, admits-allowed, group-letter, grown, counted-more}
