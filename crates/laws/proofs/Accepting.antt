@@ -6,6 +6,7 @@ use mathlib.Core.List.{List, []}
 use native.Mathlib.Omega.{arith}
 use lib.Dec.{leb}
 use lib.ListN.{length}
+use Rattle.std.specs.shelf.Lists.{All}
 use Rattle.std.proofs.shelf.Tests.{le-leb, leb-true}
 use Rattle.std.specs.Orderings.{Decides}
 use Rattle.std.specs.declared.option.Option.{Option}
@@ -19,7 +20,7 @@ use Rattle.rules.specs.Mentions.{programMentions, firstLoose, firstPast, consta
 use Rattle.rules.specs.Operations.{instructions, instructionLimit, firstOver}
 use Rattle.rules.specs.Words.{tapeOf}
 use Rattle.rules.specs.Compiled.{Outcome, tape, refuse, unless, judged, onParsed, compiled}
-use Rattle.rules.specs.Programs.{GoodLine, Group, groupLines, letters, AllOf, In, WellFormed}
+use Rattle.rules.specs.Programs.{GoodLine, Group, groupLines, letters, In, WellFormed}
 use Rattle.laws.specs.Accepted.{WrittenAccepted, AcceptedWritten, TextReads, ReadWrites, OneProgram}
 use Rattle.laws.proofs.Groups.{Follows, groups-ruled, ruled-groups}
 use Rattle.laws.proofs.Limits.{letters-told, loose-none, none-loose, past-none, none-past, over-none, none-over}
@@ -34,8 +35,8 @@ one-program ks ls v w e = same-program (sym (text-reads ks v) ∙ (ap parsed e �
 
 -- what the reading of a text shows of its program
 pub record Ruled (text : List ℕ) (ks : Program) : Type 0 where
-  pub good : AllOf GoodLine ks
-  pub short : AllOf Short ks
+  pub good : All GoodLine ks
+  pub short : All Short ks
   pub follows : Follows [] ks
   pub writes : text ≡ writtenText ks
 
@@ -43,7 +44,7 @@ ruled : (text : List ℕ) (ks : Program) → parsed text ≡ program ks → Rule
 ruled text ks e =
     let s = shows (cut text) [] ks e in
     let q : s .lines ≡ ks = sym (s .whole) in
-    record { good = subst (AllOf GoodLine) q (s .good); short = subst (AllOf Short) q (s .short); follows = subst (Follows []) q (s .follows); writes = sym (uncut-cut text) ∙ (s .text ∙ ap writtenText q) }
+    record { good = subst (All GoodLine) q (s .good); short = subst (All Short) q (s .short); follows = subst (Follows []) q (s .follows); writes = sym (uncut-cut text) ∙ (s .text ∙ ap writtenText q) }
 
 pub read-writes : ReadWrites
 read-writes text ks e = ruled text ks e .writes

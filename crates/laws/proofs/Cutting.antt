@@ -5,6 +5,7 @@ use mathlib.Core.Bool.{Bool, true, false, cond}
 use mathlib.Core.List.{List, [], _∷_, _++_}
 use native.Mathlib.Omega.{arith}
 use lib.Dec.{eqb}
+use Rattle.std.specs.shelf.Lists.{All}
 use Rattle.std.proofs.shelf.Tests.{eqb-true, ne-eqb}
 use Rattle.std.proofs.shelf.Decimals.{decimal-by-steps}
 use Rattle.std.specs.Written.{decimal}
@@ -19,8 +20,8 @@ use Rattle.rules.specs.Tree.{Operand, atom, pair, Side, reading, single, both, 
 use Rattle.rules.specs.Written.{writtenAtom, written, writtenSide, writtenTarget, writtenLine}
 use Rattle.rules.specs.Reading.{depthLimit}
 use Rattle.rules.specs.Texts.{Text, tail, line, begun, cut}
-use Rattle.rules.specs.Programs.{GoodAtom, GoodOperand, GoodSide, GoodTarget, GoodLine, AllOf}
-use Rattle.laws.proofs.Each.{all-append}
+use Rattle.rules.specs.Programs.{GoodAtom, GoodOperand, GoodSide, GoodTarget, GoodLine}
+use Rattle.std.proofs.shelf.Elements.{all-append}
 
 -- a text put together again
 abbrev pub uncut : Text → List ℕ
@@ -45,8 +46,8 @@ uncut-cut (x ∷ xs) = by (eqb x 10) refl (uncut-cut xs)
 abbrev Past : ℕ → Type 0
 Past x = 10 < x
 
-decimal-past : (n : ℕ) → n < 2 ^ 64 → AllOf Past (decimal n)
-decimal-past n h = decimal-by-steps (λ m ds. AllOf Past ds) (λ m q. (omega arith, tt)) (λ m ds q i. all-append Past ds ((48 + m % 10) ∷ []) i (omega arith, tt)) n h
+decimal-past : (n : ℕ) → n < 2 ^ 64 → All Past (decimal n)
+decimal-past n h = decimal-by-steps (λ m ds. All Past ds) (λ m q. (omega arith, tt)) (λ m ds q i. all-append Past ds ((48 + m % 10) ∷ []) i (omega arith, tt)) n h
 
 sign-past : (s : Sign) → Past (signByte s)
 sign-past Sum = omega arith
@@ -58,32 +59,32 @@ sign-past Remainder = omega arith
 sign-past Greater = omega arith
 sign-past Smaller = omega arith
 
-atom-past : (x : atoms.Atom) → GoodAtom x → AllOf Past (writtenAtom x)
+atom-past : (x : atoms.Atom) → GoodAtom x → All Past (writtenAtom x)
 atom-past (a.Variable v) g = (omega arith, tt)
 atom-past (a.Pointed v) g = (omega arith, (omega arith, tt))
 atom-past (a.Letter l) g = (omega arith, tt)
 atom-past (a.Constant n) g = decimal-past n (omega arith)
 
-operand-past : (x : Operand) (d : ℕ) → GoodOperand d x → AllOf Past (written x)
+operand-past : (x : Operand) (d : ℕ) → GoodOperand d x → All Past (written x)
 operand-past (atom x) d g = atom-past x g
 operand-past (pair l s r) zero g = absurd g
 operand-past (pair l s r) (suc d) g = (omega arith, all-append Past (written l) _ (operand-past l d (g .0)) (sign-past s, all-append Past (written r) _ (operand-past r d (g .1)) (omega arith, tt)))
 
-side-past : (z : Side) → GoodSide z → AllOf Past (writtenSide z)
+side-past : (z : Side) → GoodSide z → All Past (writtenSide z)
 side-past reading g = (omega arith, tt)
 side-past (single x) g = atom-past x g
 side-past (both l s r) g = all-append Past (written l) _ (operand-past l depthLimit (g .0)) (sign-past s, operand-past r depthLimit (g .1))
 
-target-past : (u : targets.Target) → GoodTarget u → AllOf Past (writtenTarget u)
+target-past : (u : targets.Target) → GoodTarget u → All Past (writtenTarget u)
 target-past (t.Variable v) g = (omega arith, tt)
 target-past (t.Pointed v) g = (omega arith, (omega arith, tt))
 target-past t.Label g = (omega arith, tt)
 target-past t.Place g = (omega arith, tt)
 
-line-past : (k : Line) → GoodLine k → AllOf Past (writtenLine k)
+line-past : (k : Line) → GoodLine k → All Past (writtenLine k)
 line-past k g = (omega (arith, g .group .0), (omega arith, all-append Past (writtenSide (k .side)) _ (side-past (k .side) (g .side)) (omega arith, target-past (k .target) (g .target))))
 
-cut-past : (p xs : List ℕ) → AllOf Past p → cut (p ++ (10 ∷ xs)) ≡ line p (cut xs)
+cut-past : (p xs : List ℕ) → All Past p → cut (p ++ (10 ∷ xs)) ≡ line p (cut xs)
 cut-past [] xs a = refl
 cut-past (x ∷ p) xs a = rw (ne-eqb x 10 (λ q. omega (arith, a .0)), cut-past p xs (a .1))
 

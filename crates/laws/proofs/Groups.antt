@@ -6,13 +6,14 @@ use mathlib.Core.Logic.{inl, inr}
 use mathlib.Core.List.{List, [], _∷_, _++_}
 use native.Mathlib.Omega.{arith}
 use lib.Dec.{eqb}
+use Rattle.std.specs.shelf.Lists.{All}
 use Rattle.std.proofs.shelf.Tests.{false≢true, both-ways, not-true, eqb-true, eq-eqb, ne-eqb, or-from, or-parts}
 use Rattle.std.specs.declared.option.Option.the-variants.{Some, None}
 use Rattle.rules.specs.declared.formula.Target.{Target}
 use Rattle.rules.specs.declared.formula.Target.the-variants.{Variable, Pointed, Label, Place}
 use Rattle.rules.specs.Tree.{Side, Line, Program}
 use Rattle.rules.specs.Texts.{closes, has, awaited, allowed}
-use Rattle.rules.specs.Programs.{Formula, Group, formulaLines, groupLines, letters, AllOf, In, Distinct, Inner, WellFormed}
+use Rattle.rules.specs.Programs.{Formula, Group, formulaLines, groupLines, letters, In, Distinct, Inner, WellFormed}
 
 -- each line may come after those above it, the last one first, and no group is open at the end
 abbrev pub Follows : List Line → Program → Type 0
@@ -39,12 +40,12 @@ has-not k above x h n = or-from (eqb (k .group) x) (has above x) (ne-eqb (k .gro
 
 -- From groups to the rule. A group's first line may come since its letter is new, the others since none before the last closes it.
 -- After the last line no group is open, and only this group's letter is no longer new.
-formulas-follow : (g : ℕ) (fs : List Formula) (z : Side) (rest : Program) (above : List Line) → allowed above g ≡ true → AllOf Still fs → ((v : List Line) → awaited v ≡ None → ((x : ℕ) → has above x ≡ false → (g ≡ x → ⊥) → has v x ≡ false) → Follows v rest) → Follows above (formulaLines g fs z ++ rest)
+formulas-follow : (g : ℕ) (fs : List Formula) (z : Side) (rest : Program) (above : List Line) → allowed above g ≡ true → All Still fs → ((v : List Line) → awaited v ≡ None → ((x : ℕ) → has above x ≡ false → (g ≡ x → ⊥) → has v x ≡ false) → Follows v rest) → Follows above (formulaLines g fs z ++ rest)
 formulas-follow g [] z rest above a i more = (a, more (lastOf g z ∷ above) refl (λ x h n. has-not (lastOf g z) above x h n))
 formulas-follow g (f ∷ fs) z rest above a i more = (a, formulas-follow g fs z rest (lineOf g f ∷ above) (may-stay (lineOf g f) above (i .0)) (i .1) (λ v e w. more v e (λ x h n. w x (has-not (lineOf g f) above x h n) n)))
 
 -- where the first line of all may come, and the other letters are new
-groups-follow : (g : Group) (gs : List Group) (above : List Line) → allowed above (g .letter) ≡ true → ((x : ℕ) → In x (letters gs) → has above x ≡ false) → Distinct (letters (g ∷ gs)) → AllOf Inner (g ∷ gs) → Follows above (groupLines (g ∷ gs))
+groups-follow : (g : Group) (gs : List Group) (above : List Line) → allowed above (g .letter) ≡ true → ((x : ℕ) → In x (letters gs) → has above x ≡ false) → Distinct (letters (g ∷ gs)) → All Inner (g ∷ gs) → Follows above (groupLines (g ∷ gs))
 groups-follow g [] above a f d i = formulas-follow (g .letter) (g .formulas) (g .last) [] above a (i .0) (λ v e w. e)
 groups-follow g (h ∷ gs) above a f d i =
     formulas-follow (g .letter) (g .formulas) (g .last) (groupLines (h ∷ gs)) above a (i .0) (λ v e w.
@@ -54,7 +55,7 @@ groups-follow g (h ∷ gs) above a f d i =
 pub groups-ruled : (ks : Program) → WellFormed ks → Follows [] ks
 groups-ruled ks w = subst (Follows []) (sym (w .lines)) (start (w .groups) (w .more) (w .firstA) (w .distinct) (w .inner))
   where
-    start : (gs : List Group) (more : List ℕ) → letters gs ≡ 65 ∷ more → Distinct (letters gs) → AllOf Inner gs → Follows [] (groupLines gs)
+    start : (gs : List Group) (more : List ℕ) → letters gs ≡ 65 ∷ more → Distinct (letters gs) → All Inner gs → Follows [] (groupLines gs)
     start [] more e d i = let z : _≡_ {A = ℕ} 0 1 = cc in absurd (omega arith)
     start (g ∷ gs) more e d i = let q : g .letter ≡ 65 = cc in groups-follow g gs [] (eq-eqb (g .letter) 65 q) (λ x n. refl) d i
 
@@ -64,9 +65,9 @@ pub record Begun (above : List Line) (k : Line) (ks : Program) : Type 0 where
   pub last : Side
   pub groups : List Group
   pub lines : k ∷ ks ≡ formulaLines (k .group) formulas last ++ groupLines groups
-  pub inside : AllOf Still formulas
+  pub inside : All Still formulas
   pub distinct : Distinct (letters groups)
-  pub inner : AllOf Inner groups
+  pub inner : All Inner groups
   pub fresh : (x : ℕ) → In x (letters groups) → has (k ∷ above) x ≡ false
 
 -- the group that k begins
@@ -120,7 +121,7 @@ pub record InGroups (ks : Program) : Type 0 where
   pub more : List ℕ
   pub firstA : letters groups ≡ 65 ∷ more
   pub distinct : Distinct (letters groups)
-  pub inner : AllOf Inner groups
+  pub inner : All Inner groups
 
 pub ruled-groups : (ks : Program) → Follows [] ks → InGroups ks
 ruled-groups [] f = let z : _≡_ {A = ℕ} 0 1 = cc in absurd (omega arith)

@@ -2,7 +2,6 @@ pub mod Shown
 pub mod Digits
 pub mod Back
 pub mod Lines
-pub mod Each
 pub mod Groups
 pub mod Limits
 pub mod Cutting
@@ -12,3 +11,4 @@ pub mod Accepting
 pub mod Places
 pub mod Lengths
 pub mod Longest
+pub mod Firsts

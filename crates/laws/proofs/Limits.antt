@@ -6,6 +6,7 @@ use mathlib.Core.List.{List, [], _∷_, _++_}
 use native.Mathlib.Omega.{arith}
 use lib.Dec.{eqb, leb, ltb}
 use lib.ListN.{length}
+use Rattle.std.specs.shelf.Lists.{All}
 use Rattle.std.proofs.shelf.Lists.{length-append}
 use Rattle.std.proofs.shelf.Tests.{false≢true, leb-true, le-leb, cond-both}
 use Rattle.std.proofs.shelf.Ways.{decides-at, decides-like, decides-or, decides-eqb}
@@ -18,7 +19,7 @@ use Rattle.rules.specs.Tree.{Side, Program}
 use Rattle.rules.specs.Texts.{has}
 use Rattle.rules.specs.Mentions.{Mention, grouped, firstLoose, placeOf, noting, different, constantLimit, firstPast}
 use Rattle.rules.specs.Operations.{sideCount, instructions, instructionLimit, firstOver}
-use Rattle.rules.specs.Programs.{Formula, Group, formulaLines, groupLines, letters, AllOf, In, LetterIn}
+use Rattle.rules.specs.Programs.{Formula, Group, formulaLines, groupLines, letters, In, LetterIn}
 
 again : (b c : Bool) → (b || (b || c)) ≡ (b || c)
 again true c = refl
@@ -43,15 +44,15 @@ module _ (ks : Program) (gs : List ℕ) (told : (x : ℕ) → Decides (has ks x)
   grouped-told (Letter g) = told g
   grouped-told (Constant n) = (λ e. tt, λ n. refl)
 
-  pub loose-none : (ms : List Mention) → AllOf (λ (m : Mention). LetterIn gs (m .what)) ms → firstLoose ks ms ≡ None
+  pub loose-none : (ms : List Mention) → All (λ (m : Mention). LetterIn gs (m .what)) ms → firstLoose ks ms ≡ None
   loose-none [] a = refl
   loose-none (m ∷ ms) a = rw (grouped-told (m .what) .1 (a .0)) (loose-none ms (a .1))
 
-  pub none-loose : (ms : List Mention) → firstLoose ks ms ≡ None → AllOf (λ (m : Mention). LetterIn gs (m .what)) ms
+  pub none-loose : (ms : List Mention) → firstLoose ks ms ≡ None → All (λ (m : Mention). LetterIn gs (m .what)) ms
   none-loose [] e = tt
   none-loose (m ∷ ms) e = by (grouped ks (m .what)) refl e (λ f. none-loose ms f)
     where
-      by : (b : Bool) → grouped ks (m .what) ≡ b → cond b (firstLoose ks ms) (Some (report 7 (m .line) (m .place))) ≡ None → (firstLoose ks ms ≡ None → AllOf (λ (n : Mention). LetterIn gs (n .what)) ms) → AllOf (λ (n : Mention). LetterIn gs (n .what)) (m ∷ ms)
+      by : (b : Bool) → grouped ks (m .what) ≡ b → cond b (firstLoose ks ms) (Some (report 7 (m .line) (m .place))) ≡ None → (firstLoose ks ms ≡ None → All (λ (n : Mention). LetterIn gs (n .what)) ms) → All (λ (n : Mention). LetterIn gs (n .what)) (m ∷ ms)
       by true h f more = (grouped-told (m .what) .0 h, more f)
       by false h f more = let z : _≡_ {A = ℕ} 0 1 = cc in absurd (omega arith)
 

@@ -9,6 +9,7 @@ use mathlib.Core.List.{List, [], _∷_, _++_}
 use native.Mathlib.Omega.{arith}
 use lib.Dec.{eqb}
 use lib.ListN.{length}
+use Rattle.std.specs.shelf.Lists.{All}
 use Rattle.std.proofs.shelf.Tests.{false≢true, eqb-true, eqb-false, eq-eqb, or-cases}
 use Rattle.std.specs.declared.option.Option.{Option}
 use Rattle.std.specs.declared.option.Option.the-variants.{Some, None}
@@ -18,7 +19,7 @@ use Rattle.rules.specs.Texts.{has}
 use Rattle.rules.specs.Mentions.{constantsOf}
 use Rattle.rules.specs.Operations.{instructions}
 use Rattle.rules.specs.Words.{sameGroup, codeWords, tapeOf}
-use Rattle.rules.specs.Programs.{IsLetter, GoodLine, Formula, Group, formulaLines, groupLines, letters, AllOf, In, Distinct, WellFormed}
+use Rattle.rules.specs.Programs.{IsLetter, GoodLine, Formula, Group, formulaLines, groupLines, letters, In, Distinct, WellFormed}
 use Rattle.laws.specs.Longest.{LongestTape}
 use Rattle.laws.proofs.Limits.{letters-told}
 use Rattle.laws.proofs.Lengths.{code-length, tape-length}
@@ -62,11 +63,11 @@ distinct-few (suc n) low xs d h =
     omega (arith, without-length (low + n) xs, distinct-few n low (without (low + n) xs) (without-distinct (low + n) xs d) (λ x m. let k = without-in (low + n) xs d x m in let r = h x (k .0) in (r .0, omega arith)))
 
 -- the letter of a line is from A to Z, and every group has a line
-good-has : (ks : Program) (x : ℕ) → AllOf GoodLine ks → has ks x ≡ true → IsLetter x
+good-has : (ks : Program) (x : ℕ) → All GoodLine ks → has ks x ≡ true → IsLetter x
 good-has [] x a h = absurd (false≢true h)
 good-has (k ∷ ks) x a h = elim (or-cases (eqb (k .group) x) (has ks x) h) [ inl e ↦ subst IsLetter (eqb-true (k .group) x e) (a .0 .group) | inr e ↦ good-has ks x (a .1) e ]
 
-letters-few : (gs : List Group) → Distinct (letters gs) → AllOf GoodLine (groupLines gs) → length (letters gs) ≤ 26
+letters-few : (gs : List Group) → Distinct (letters gs) → All GoodLine (groupLines gs) → length (letters gs) ≤ 26
 letters-few gs d a = distinct-few 26 65 (letters gs) d (λ x n. let g = good-has (groupLines gs) x a (letters-told gs x .1 n) in (g .0, omega arith))
 
 -- a head where the group begins, and none inside
@@ -85,7 +86,7 @@ groups-words cs above (g ∷ gs) = by (sameGroup above (g .letter)) (formulas-wo
 well-formed-words : (ks : Program) → WellFormed ks → length (tapeOf (constantsOf ks) ks) ≤ 491
 well-formed-words ks w =
     let c : length (codeWords (constantsOf ks) None ks) ≤ length (letters (w .groups)) + instructions ks = subst (λ (o : Program). length (codeWords (constantsOf ks) None o) ≤ length (letters (w .groups)) + instructions o) (sym (w .lines)) (groups-words (constantsOf ks) None (w .groups)) in
-    omega (arith, tape-length (constantsOf ks) ks, letters-few (w .groups) (w .distinct) (subst (AllOf GoodLine) (w .lines) (w .good)))
+    omega (arith, tape-length (constantsOf ks) ks, letters-few (w .groups) (w .distinct) (subst (All GoodLine) (w .lines) (w .good)))
 
 pub longest-tape : LongestTape
 longest-tape text ws e = let a = accepted-written text ws e in omega (arith, ap length (a .3), well-formed-words (a .0) (a .1))

@@ -5,6 +5,7 @@ use mathlib.Core.Bool.{Bool, true, false, cond}
 use mathlib.Core.List.{List, [], _∷_, _++_, reverse, reverse-cons, append-assoc, append-nil}
 use native.Mathlib.Omega.{arith}
 use lib.ListN.{length}
+use Rattle.std.specs.shelf.Lists.{All}
 use Rattle.std.proofs.shelf.Tests.{le-leb}
 use Rattle.std.specs.declared.option.Option.{Option}
 use Rattle.std.specs.declared.option.Option.the-variants.{Some, None}
@@ -13,7 +14,7 @@ use Rattle.rules.specs.Tree.{Line, Program}
 use Rattle.rules.specs.Written.{writtenLine, writtenText}
 use Rattle.rules.specs.Reading.{Read, got, fails, lineRead, lineLimit}
 use Rattle.rules.specs.Texts.{Text, tail, line, cut, awaited, allowed, endedBy, program, refused, onLine, parsedFrom}
-use Rattle.rules.specs.Programs.{GoodLine, AllOf}
+use Rattle.rules.specs.Programs.{GoodLine}
 use Rattle.laws.proofs.Lines.{lines-read, lines-written, read-short}
 use Rattle.laws.proofs.Cutting.{uncut, cut-line}
 use Rattle.laws.proofs.Groups.{Follows}
@@ -31,8 +32,8 @@ same-program e = cc
 pub record Shows (t : Text) (above : List Line) (ks : Program) : Type 0 where
   pub lines : Program
   pub whole : ks ≡ reverse above ++ lines
-  pub good : AllOf GoodLine lines
-  pub short : AllOf Short lines
+  pub good : All GoodLine lines
+  pub short : All Short lines
   pub follows : Follows above lines
   pub text : uncut t ≡ writtenText lines
 
@@ -49,7 +50,7 @@ no-line above e = rw e
 
 -- Each line is cut off whole and read as itself, and the rule admits it.
 -- So the lines are gathered one by one, and at the end no group is open.
-pub parses : (ks above : List Line) → AllOf GoodLine ks → AllOf Short ks → Follows above ks → parsedFrom (cut (writtenText ks)) above ≡ program (reverse above ++ ks)
+pub parses : (ks above : List Line) → All GoodLine ks → All Short ks → Follows above ks → parsedFrom (cut (writtenText ks)) above ≡ program (reverse above ++ ks)
 parses [] above g h f = no-line above f ∙ ap program (sym (append-nil (reverse above)))
 parses (k ∷ ks) above g h f =
     ap (λ (t : Text). parsedFrom t above) (cut-line k (writtenText ks) (g .0))

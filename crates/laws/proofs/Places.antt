@@ -1,6 +1,6 @@
 -- Each reader looks at one byte and then hands the rest on, so what it read before a failure it reads again before any bytes that go on alike.
 -- Hence bytes that agree with a refused line up to and at the place are refused there too, whatever follows.
--- What was read before the place can always be ended: an operand by a variable, a pair by a sign and a variable, a parenthesis by its close, a line by its target.
+-- What was read before the place can always be withEnd: an operand by a variable, a pair by a sign and a variable, a parenthesis by its close, a line by its target.
 use Prim.Native.Nat.{ℕ, zero, suc, _+_, _-_, _<_, _≤_}
 use mathlib.Core.Path.{_≡_, refl, sym, ap, subst, _∙_}
 use mathlib.Core.Bool.{Bool, true, false, cond}
@@ -8,6 +8,7 @@ use mathlib.Core.List.{List, [], _∷_, _++_, append-assoc, append-nil}
 use native.Mathlib.Omega.{arith}
 use lib.Dec.{eqb}
 use lib.ListN.{length, getD, take, drop}
+use Rattle.std.specs.shelf.Lists.{kept-by}
 use Rattle.std.proofs.shelf.Lists.{length-append, length-take-le, take-at, drop-at}
 use Rattle.std.proofs.shelf.Sums.{leading-le-length}
 use Rattle.std.proofs.shelf.Ways.{tells}
@@ -30,20 +31,20 @@ use Rattle.rules.specs.Tree.{Operand, atom, pair, Side, reading, single, both, 
 use Rattle.rules.specs.Written.{written, writtenAtom, writtenSide, writtenTarget, writtenLine}
 use Rattle.rules.specs.Reading.{Read, got, fails, onward, first, between, isDigit, start, digitRun, Digits, proper, constantAt, constantIf, variableAt, byteAt, letterAt, signIf, signAt, secondBy, pairBy, closedBy, operandOn, insideAt, operandAt, secondAt, depthLimit, singleOn, sideAfter, sideOn, sideAt, openingAt, targetOn, targetAt, endAt, lineAt}
 use Rattle.rules.specs.Programs.{IsVariable, IsLetter, GoodAtom, GoodOperand, GoodSide, GoodTarget, GoodLine}
-use Rattle.laws.specs.Places.{placeAt, ended, countOf, openAfter, Begins, BeginsNone, Stands, PlacesAreFirst}
+use Rattle.laws.specs.Places.{placeAt, withEnd, countOf, openAfter, Begins, BeginsNone, Stands, PlacesAreFirst}
 use Rattle.laws.proofs.Digits.{decimal-digits, digit-at, digits-front, constant-start, constant-rest, digit-start}
 use Rattle.laws.proofs.Back.{reads-written, writes-read, atom-reads, sign-reads, sign-digits, onward-back, got-value, got-rest, front, byte-back, sign-back, start-digit, start-pointer, start-parenthesis, from-second, from-pair, FromPair, closed-step, inside-suc, operand-on, variable-start, letter-start, variable-reads}
 use Rattle.laws.proofs.Lines.{lines-read, opening-reads, letter-back, opening-back, side-back, target-back, operand-first, after-reads}
 
 -- counts of a byte
 
-count-step : (t : Bool) (m n k : ℕ) → m ≡ n + k → cond t (suc m) m ≡ cond t (suc n) n + k
-count-step true m n k e = omega arith
-count-step false m n k e = e
+count-step : (t : Bool) (x : ℕ) (ms ns : List ℕ) (k : ℕ) → length ms ≡ length ns + k → length (cond t (x ∷ ms) ms) ≡ length (cond t (x ∷ ns) ns) + k
+count-step true x ms ns k e = omega arith
+count-step false x ms ns k e = e
 
 count-append : (b : ℕ) (xs ys : List ℕ) → countOf b (xs ++ ys) ≡ countOf b xs + countOf b ys
 count-append b [] ys = omega arith
-count-append b (x ∷ xs) ys = count-step (eqb x b) (countOf b (xs ++ ys)) (countOf b xs) (countOf b ys) (count-append b xs ys)
+count-append b (x ∷ xs) ys = count-step (eqb x b) x (kept-by (λ y. eqb y b) (xs ++ ys)) (kept-by (λ y. eqb y b) xs) (countOf b ys) (count-append b xs ys)
 
 count-digits : (b : ℕ) (ds : List ℕ) → b < 48 → Digits ds → countOf b ds ≡ 0
 count-digits b [] h f = refl
@@ -566,14 +567,14 @@ line-places = seq openingAt (λ g ys. body g ys) OpeningFit LineFit depthLimit (
 
 -- the law
 
-take-before : (c d : List ℕ) → take (length c) (ended (c ++ d)) ≡ c
+take-before : (c d : List ℕ) → take (length c) (withEnd (c ++ d)) ≡ c
 take-before [] d = refl
 take-before (x ∷ c) d = ap (λ us. x ∷ us) (take-before c d)
 
-before-is : (c d xs : List ℕ) (p : ℕ) → xs ≡ c ++ d → p - 1 ≡ length c → take (p - 1) (ended xs) ≡ c
+before-is : (c d xs : List ℕ) (p : ℕ) → xs ≡ c ++ d → p - 1 ≡ length c → take (p - 1) (withEnd xs) ≡ c
 before-is c d xs p s j = rw (j, s) (take-before c d)
 
-take-here : (c d : List ℕ) → take (suc (length c)) (ended (c ++ d)) ≡ c ++ (getD d 0 10 ∷ [])
+take-here : (c d : List ℕ) → take (suc (length c)) (withEnd (c ++ d)) ≡ c ++ (getD d 0 10 ∷ [])
 take-here [] [] = refl
 take-here [] (x ∷ d) = refl
 take-here (x ∷ c) d = ap (λ us. x ∷ us) (take-here c d)
@@ -605,7 +606,7 @@ places-are-first xs e left q =
     let l : length (u .d) ≡ left = u .long in
     let i : placeAt xs left ≡ suc (length (u .c)) = omega arith in
     let j : placeAt xs left - 1 ≡ length (u .c) = omega arith in
-    let t : take (placeAt xs left - 1) (ended xs) ≡ u .c = before-is (u .c) (u .d) xs (placeAt xs left) (u .split) j in
+    let t : take (placeAt xs left - 1) (withEnd xs) ≡ u .c = before-is (u .c) (u .d) xs (placeAt xs left) (u .split) j in
     let b : Begins (u .c) = (u .more, u .fit .0, u .fit .1, u .fit .2) in
     record {
       low = omega arith;

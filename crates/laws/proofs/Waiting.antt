@@ -3,6 +3,7 @@ use Prim.Native.Nat.{ℕ, zero, suc, _+_, _*_, _<_, _≤_}
 use mathlib.Core.Path.{_≡_}
 use native.Mathlib.Omega.{arith}
 use lib.ListN.{length}
+use Rattle.std.specs.shelf.Lists.{All}
 use Rattle.std.proofs.shelf.Lists.{length-append}
 use Rattle.std.proofs.shelf.Decimals.{decimal-some}
 use Rattle.rules.specs.declared.sign.Sign.{Sign}
@@ -13,9 +14,9 @@ use Rattle.rules.specs.declared.formula.Target.the-variants as t
 use Rattle.rules.specs.Tree.{Operand, atom, pair, Side, reading, single, both, Line}
 use Rattle.rules.specs.Written.{writtenAtom, written, writtenSide, writtenTarget, writtenLine}
 use Rattle.rules.specs.Operations.{source, waitingAfter, operations, sideOperations}
-use Rattle.rules.specs.Programs.{GoodAtom, GoodOperand, GoodSide, AllOf}
+use Rattle.rules.specs.Programs.{GoodAtom, GoodOperand, GoodSide}
 use Rattle.laws.specs.Temporaries.{FitsSource, FitsOperation, TemporariesFit, OperationsFew}
-use Rattle.laws.proofs.Each.{all-append}
+use Rattle.std.proofs.shelf.Elements.{all-append}
 
 atom-some : (x : atoms.Atom) → GoodAtom x → 0 < length (writtenAtom x)
 atom-some (a.Variable v) g = omega arith
@@ -42,7 +43,7 @@ source-fits (pair l s r) w h = h
 
 -- A result waits only while what stands to its right is worked, and it was written to the left with at least `(a+b)` and a sign.
 -- So sixteen results would take ninety-six bytes, and a line has at most eighty.
-operand-fits : (x : Operand) (d m w : ℕ) → GoodOperand d x → 6 * w ≤ m → m + length (written x) ≤ 80 → AllOf FitsOperation (operations x w)
+operand-fits : (x : Operand) (d m w : ℕ) → GoodOperand d x → 6 * w ≤ m → m + length (written x) ≤ 80 → All FitsOperation (operations x w)
 operand-fits (atom x) d m w g h n = tt
 operand-fits (pair x s y) zero m w g h n = absurd g
 operand-fits (pair x s y) (suc d) m w g h n =
@@ -78,7 +79,7 @@ both-length l r s = simp length-append (omega arith)
 pub temporaries-fit : TemporariesFit
 temporaries-fit k g h = by (k .side) (g .side) (side-length k h)
   where
-    by : (z : Side) → GoodSide z → length (writtenSide z) ≤ 76 → AllOf FitsOperation (sideOperations z)
+    by : (z : Side) → GoodSide z → length (writtenSide z) ≤ 76 → All FitsOperation (sideOperations z)
     by reading q n = tt
     by (single x) q n = tt
     by (both l s r) q n = operand-fits (pair l s r) 17 0 0 q (omega arith) (omega (arith, both-length l r s))

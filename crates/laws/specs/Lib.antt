@@ -4,3 +4,4 @@ pub mod Accepted
 pub mod Temporaries
 pub mod Places
 pub mod Longest
+pub mod Firsts

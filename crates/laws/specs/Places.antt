@@ -1,10 +1,11 @@
 -- What the place of a refusal says of a line.
-use Prim.Native.Nat.{ℕ, suc, _+_, _-_, _<_, _≤_}
+use Prim.Native.Nat.{ℕ, _+_, _-_, _<_, _≤_}
 use mathlib.Core.Path.{_≡_}
-use mathlib.Core.Bool.{cond, false}
+use mathlib.Core.Bool.{false}
 use mathlib.Core.List.{List, [], _∷_, _++_}
 use lib.Dec.{eqb}
 use lib.ListN.{length, getD, take, drop}
+use Rattle.std.specs.shelf.Lists.{kept-by}
 use Rattle.rules.specs.declared.refusal.Fault.{Fault}
 use Rattle.rules.specs.declared.refusal.Fault.the-variants.{LineEndMissing, ByteOutOfPlace, BadConstant, NestedTooDeep}
 use Rattle.rules.specs.Tree.{Line}
@@ -17,12 +18,12 @@ abbrev pub placeAt : List ℕ → ℕ → ℕ
 placeAt xs left = length xs + 1 - left
 
 -- the line end counts as a byte
-abbrev pub ended : List ℕ → List ℕ
-ended xs = xs ++ (10 ∷ [])
+abbrev pub withEnd : List ℕ → List ℕ
+withEnd xs = xs ++ (10 ∷ [])
 
+-- how often a byte stands among these
 abbrev pub countOf : ℕ → List ℕ → ℕ
-countOf b [] = 0
-countOf b (x ∷ xs) = cond (eqb x b) (suc (countOf b xs)) (countOf b xs)
+countOf b xs = length (kept-by (λ x. eqb x b) xs)
 
 -- how many parentheses are open after these bytes
 abbrev pub openAfter : List ℕ → ℕ
@@ -39,15 +40,15 @@ BeginsNone xs = (suffix : List ℕ) (k : Line) → GoodLine k → xs ++ suffix �
 -- what stands at a place where a line is refused
 abbrev pub Stands : Fault → List ℕ → ℕ → Type 0
 Stands LineEndMissing xs p = ⊥
-Stands ByteOutOfPlace xs p = BeginsNone (take p (ended xs))
+Stands ByteOutOfPlace xs p = BeginsNone (take p (withEnd xs))
 Stands BadConstant xs p = (0 < digitRun (drop (p - 1) xs)) × (proper (drop (p - 1) xs) ≡ false) × BeginsNone (take (p - 1) xs ++ take (digitRun (drop (p - 1) xs)) (drop (p - 1) xs))
-Stands NestedTooDeep xs p = (getD xs (p - 1) 0 ≡ 40) × (openAfter (take (p - 1) xs) ≡ depthLimit) × BeginsNone (take p (ended xs))
+Stands NestedTooDeep xs p = (getD xs (p - 1) 0 ≡ 40) × (openAfter (take (p - 1) xs) ≡ depthLimit) × BeginsNone (take p (withEnd xs))
 
 -- the bytes before the place begin some line, and what stands at the place does not let them
 pub record FirstPlace (e : Fault) (xs : List ℕ) (p : ℕ) : Type 0 where
   pub low : 1 ≤ p
   pub high : p ≤ length xs + 1
-  pub before : Begins (take (p - 1) (ended xs))
+  pub before : Begins (take (p - 1) (withEnd xs))
   pub here : Stands e xs p
 
 -- of the bytes of a line without its line end

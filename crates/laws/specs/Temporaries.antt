@@ -1,6 +1,7 @@
 -- The cells for results that wait, 500 to 515, are enough for every line.
 use Prim.Native.Nat.{_≤_}
 use lib.ListN.{length}
+use Rattle.std.specs.shelf.Lists.{All}
 use Rattle.rules.specs.declared.operation.Source.{Source}
 use Rattle.rules.specs.declared.operation.Source.the-variants.{Named, Temporary}
 use Rattle.rules.specs.declared.operation.Operation.{Operation}
@@ -8,7 +9,7 @@ use Rattle.rules.specs.Tree.{Line}
 use Rattle.rules.specs.Written.{writtenLine}
 use Rattle.rules.specs.Reading.{lineLimit}
 use Rattle.rules.specs.Operations.{sideOperations}
-use Rattle.rules.specs.Programs.{GoodLine, AllOf}
+use Rattle.rules.specs.Programs.{GoodLine}
 
 -- an operand that waits is in a temporary from 0 to 15
 abbrev pub FitsSource : Source → Type 0
@@ -22,7 +23,7 @@ pub record FitsOperation (o : Operation) : Type 0 where
 
 -- no operation of a line asks for another temporary, as an operand or for its result
 abbrev pub TemporariesFit : Type 0
-TemporariesFit = (k : Line) → GoodLine k → length (writtenLine k) ≤ lineLimit → AllOf FitsOperation (sideOperations (k .side))
+TemporariesFit = (k : Line) → GoodLine k → length (writtenLine k) ≤ lineLimit → All FitsOperation (sideOperations (k .side))
 
 -- and a line has at most 19 operations
 abbrev pub OperationsFew : Type 0

@@ -4,6 +4,7 @@ ghost use Rattle.laws.specs.Roundtrip.{OperandsRead, OperandsWritten, LinesRea
 ghost use Rattle.laws.specs.Accepted.{WrittenAccepted, AcceptedWritten, TextReads, ReadWrites, OneProgram};
 ghost use Rattle.laws.specs.Temporaries.{TemporariesFit, OperationsFew};
 ghost use Rattle.laws.specs.Longest.{LongestTape};
+ghost use Rattle.laws.specs.Firsts.{MentionsWritten, LettersFirst, ConstantsFirst, InstructionsFirst};
 
 // The worked examples hold of the definitions.
 pub fn examples_stand()
@@ -41,4 +42,12 @@ pub fn places_are_first()
 // A buffer of 491 words holds every tape.
 pub fn tapes_are_short()
     ensures { λ _. ⌜ LongestTape ⌝ }
+{}
+
+// A refusal that is judged after all lines names the first letter, constant or line that breaks its rule, where it is written.
+pub fn firsts_are_named()
+    ensures mentions { λ _. ⌜ MentionsWritten ⌝ }
+    ensures letters { λ _. ⌜ LettersFirst ⌝ }
+    ensures constants { λ _. ⌜ ConstantsFirst ⌝ }
+    ensures instructions { λ _. ⌜ InstructionsFirst ⌝ }
 {}

@@ -13,7 +13,7 @@ pub const CAPACITY: usize = 19;
 // A line's operations in the order in which they are worked.
 #[derive(Drop)]
 pub struct Operations {
-    items: [Operation; 19],
+    items: [Operation; CAPACITY],
     len: usize,
     ghost fits: { len ≤ 19 },
 }

@@ -5,6 +5,7 @@ use mathlib.Core.Bool.{false}
 use mathlib.Core.Logic.{_⊎_}
 use mathlib.Core.List.{List, [], _∷_, _++_}
 use lib.ListN.{length}
+use Rattle.std.specs.shelf.Lists.{All}
 use Rattle.rules.specs.declared.formula.Atom as atoms
 use Rattle.rules.specs.declared.formula.Atom.the-variants as a
 use Rattle.rules.specs.declared.formula.Target as targets
@@ -76,10 +77,6 @@ abbrev pub letters : List Group → List ℕ
 letters [] = []
 letters (g ∷ gs) = g .letter ∷ letters gs
 
-abbrev pub AllOf : {X : Type 0} → (X → Type 0) → List X → Type 0
-AllOf P [] = Unit {0}
-AllOf P (x ∷ xs) = P x × AllOf P xs
-
 abbrev pub In : ℕ → List ℕ → Type 0
 In g [] = ⊥
 In g (x ∷ xs) = (g ≡ x) ⊎ In g xs
@@ -90,7 +87,7 @@ Distinct (x ∷ xs) = (In x xs → ⊥) × Distinct xs
 
 -- no formula before a group's last has target `#`
 abbrev pub Inner : Group → Type 0
-Inner g = AllOf (λ (f : Formula). closes (f .target) ≡ false) (g .formulas)
+Inner g = All (λ (f : Formula). closes (f .target) ≡ false) (g .formulas)
 
 -- a letter that is mentioned is one of these
 abbrev pub LetterIn : List ℕ → atoms.Atom → Type 0
@@ -105,10 +102,10 @@ pub record WellFormed (ks : Program) : Type 0 where
   pub more : List ℕ
   pub firstA : letters groups ≡ 65 ∷ more
   pub distinct : Distinct (letters groups)
-  pub inner : AllOf Inner groups
-  pub good : AllOf GoodLine ks
-  pub short : AllOf (λ (k : Line). length (writtenLine k) ≤ lineLimit) ks
-  pub grouped : AllOf (λ (m : Mention). LetterIn (letters groups) (m .what)) (programMentions 1 ks)
+  pub inner : All Inner groups
+  pub good : All GoodLine ks
+  pub short : All (λ (k : Line). length (writtenLine k) ≤ lineLimit) ks
+  pub grouped : All (λ (m : Mention). LetterIn (letters groups) (m .what)) (programMentions 1 ks)
   pub constants : length (constantsOf ks) ≤ constantLimit
   pub few : instructions ks ≤ instructionLimit
   pub brief : length (writtenText ks) ≤ textLimit

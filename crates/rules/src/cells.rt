@@ -1,4 +1,5 @@
-// Where things stand among the thousand cells of a store, and the limits that follow.
+// Where things stand among the thousand cells of a store: each range by its first cell. Addresses 0 and 1 are no cells but
+// the place register, the reading organ as an operand and the label as a result; POINTED is added where a variable points.
 pub const PLACE_REGISTER: u64 = 0;
 
 pub const READING_ORGAN: u64 = 1;

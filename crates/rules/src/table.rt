@@ -81,11 +81,14 @@ pub fn sign_of(byte: u8) -> Option<Sign>
     None
 }
 
+// Where the transfer stands in the table: the one row without a sign.
+const TRANSFER_ROW: usize = 4;
+
 // The row of the transfer.
 pub fn transfer() -> CodeRow
     ensures { λ r. ⌜ r ≡ transferRow ⌝ }
 {
-    CODES[4]
+    CODES[TRANSFER_ROW]
 }
 
 impl Sign {

@@ -3,6 +3,10 @@ use crate::case::Case;
 use crate::case::Part;
 use crate::case::ROOM;
 
+// A group for each letter, of one line.
+const ALL_GROUPS: &str =
+    "A,a,#\nB,a,#\nC,a,#\nD,a,#\nE,a,#\nF,a,#\nG,a,#\nH,a,#\nI,a,#\nJ,a,#\nK,a,#\nL,a,#\nM,a,#\nN,a,#\nO,a,#\nP,a,#\nQ,a,#\nR,a,#\nS,a,#\nT,a,#\nU,a,#\nV,a,#\nW,a,#\nX,a,#\nY,a,#\nZ,a,#\n";
+
 const LIMITS: [Case; 16] = [
     // the line of the 373rd
     Case {
@@ -49,23 +53,13 @@ const LIMITS: [Case; 16] = [
     // 347 and 26; heads are no instructions
     Case {
         name: "373 instructions over 26 groups",
-        parts: &[
-            Part::Repeated("A,a,b\n", 347),
-            Part::Plain(
-                "A,a,#\nB,a,#\nC,a,#\nD,a,#\nE,a,#\nF,a,#\nG,a,#\nH,a,#\nI,a,#\nJ,a,#\nK,a,#\nL,a,#\nM,a,#\nN,a,#\nO,a,#\nP,a,#\nQ,a,#\nR,a,#\nS,a,#\nT,a,#\nU,a,#\nV,a,#\nW,a,#\nX,a,#\nY,a,#\nZ,a,#\n",
-            ),
-        ],
+        parts: &[Part::Repeated("A,a,b\n", 347), Part::Plain(ALL_GROUPS)],
         room: ROOM,
     },
     // 372, 26 heads, end
     Case {
         name: "372 instructions over 26 groups",
-        parts: &[
-            Part::Repeated("A,a,b\n", 346),
-            Part::Plain(
-                "A,a,#\nB,a,#\nC,a,#\nD,a,#\nE,a,#\nF,a,#\nG,a,#\nH,a,#\nI,a,#\nJ,a,#\nK,a,#\nL,a,#\nM,a,#\nN,a,#\nO,a,#\nP,a,#\nQ,a,#\nR,a,#\nS,a,#\nT,a,#\nU,a,#\nV,a,#\nW,a,#\nX,a,#\nY,a,#\nZ,a,#\n",
-            ),
-        ],
+        parts: &[Part::Repeated("A,a,b\n", 346), Part::Plain(ALL_GROUPS)],
         room: ROOM,
     },
     // 9 comes before 10
@@ -121,9 +115,7 @@ const LIMITS: [Case; 16] = [
                 after: ",a\n",
             },
             Part::Repeated("A,a,b\n", 300),
-            Part::Plain(
-                "A,a,#\nB,a,#\nC,a,#\nD,a,#\nE,a,#\nF,a,#\nG,a,#\nH,a,#\nI,a,#\nJ,a,#\nK,a,#\nL,a,#\nM,a,#\nN,a,#\nO,a,#\nP,a,#\nQ,a,#\nR,a,#\nS,a,#\nT,a,#\nU,a,#\nV,a,#\nW,a,#\nX,a,#\nY,a,#\nZ,a,#\n",
-            ),
+            Part::Plain(ALL_GROUPS),
         ],
         room: 491,
     },
@@ -138,9 +130,7 @@ const LIMITS: [Case; 16] = [
                 after: ",a\n",
             },
             Part::Repeated("A,a,b\n", 300),
-            Part::Plain(
-                "A,a,#\nB,a,#\nC,a,#\nD,a,#\nE,a,#\nF,a,#\nG,a,#\nH,a,#\nI,a,#\nJ,a,#\nK,a,#\nL,a,#\nM,a,#\nN,a,#\nO,a,#\nP,a,#\nQ,a,#\nR,a,#\nS,a,#\nT,a,#\nU,a,#\nV,a,#\nW,a,#\nX,a,#\nY,a,#\nZ,a,#\n",
-            ),
+            Part::Plain(ALL_GROUPS),
         ],
         room: 490,
     },
