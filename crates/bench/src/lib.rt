@@ -1,4 +1,6 @@
-// Three devices side by side with three others: calls that can be made of them, and how their answers compare.
+//! Three devices side by side with three others: calls that can be made of them, and how their answers compare.
+#![tactic(auto)]
+
 pub mod call;
 pub mod comparing;
 pub mod devices;

@@ -1,4 +1,6 @@
-// A formula text to its tape.
+//! A formula text to its tape.
+#![tactic(auto)]
+
 mod compiling;
 mod constants;
 mod cutting;

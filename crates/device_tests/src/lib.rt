@@ -1,4 +1,6 @@
-// Tests of the devices: each limit, for every kind by the same function, and the bytes of the kinds that have a layout.
+//! Tests of the devices: each limit, for every kind by the same function, and the bytes of the kinds that have a layout.
+#![tactic(auto)]
+
 #[cfg(test)]
 mod bytes;
 #[cfg(test)]

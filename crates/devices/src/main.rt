@@ -1,4 +1,6 @@
-// Runs one exercise over both kinds of each device and prints what each kind answers.
+//! Runs one exercise over both kinds of each device and prints what each kind answers.
+#![tactic(auto)]
+
 mod exercise;
 mod many;
 

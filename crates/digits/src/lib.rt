@@ -1,4 +1,6 @@
-// Rows of numbers written in decimal digits, each followed by a comma.
+//! Rows of numbers written in decimal digits, each followed by a comma.
+#![tactic(auto)]
+
 ghost use Rattle.digits.specs.Examples.{Examples};
 
 mod changing;

@@ -1,3 +1,5 @@
+#![tactic(auto)]
+
 ghost use Rattle.laws.specs.Devices.{Devices};
 ghost use Rattle.laws.specs.Examples.{Examples};
 ghost use Rattle.laws.specs.Places.{PlacesAreFirst};

@@ -1,4 +1,6 @@
-// A worked example: a kind of reading queue of one's own. docs/UNIT.md goes through it.
+//! A worked example: a kind of reading queue of one's own. docs/UNIT.md goes through it.
+#![tactic(auto)]
+
 ghost use Rattle.std.specs.Prelude.{◌≡◌, ℕ, ◌<◌, ◌≤◌, [], length, take, slice_index};
 ghost use Rattle.rules.specs.Queues.{queue_limit};
 ghost use Rattle.rules.specs.Stores.{number_limit};

@@ -1,4 +1,6 @@
-// Reads one line of a formula text: its bytes to its parts and its operations, with no heap.
+//! Reads one line of a formula text: its bytes to its parts and its operations, with no heap.
+#![tactic(auto)]
+
 mod bytes;
 pub mod failure;
 pub mod line;

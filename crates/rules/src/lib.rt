@@ -1,4 +1,6 @@
-// The plain types that every part of the formula unit speaks of; specs/ holds the definitions a reader must believe.
+//! The plain types that every part of the formula unit speaks of; specs/ holds the definitions a reader must believe.
+#![tactic(auto)]
+
 pub mod cells;
 pub mod formula;
 pub mod limits;

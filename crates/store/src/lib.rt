@@ -1,4 +1,6 @@
-// The word store of the formula unit: a thousand cells, each a number of fourteen digits. Two kinds of memory, one meaning.
+//! The word store of the formula unit: a thousand cells, each a number of fourteen digits. Two kinds of memory, one meaning.
+#![tactic(auto)]
+
 ghost use Rattle.store.specs.Examples.{Examples};
 
 pub mod by_digits;

@@ -1,4 +1,6 @@
-// Reads a formula text on standard input and lists the words of its tape, or says why the text is refused.
+//! Reads a formula text on standard input and lists the words of its tape, or says why the text is refused.
+#![tactic(auto)]
+
 ghost use Rattle.std.specs.Prelude.{◌≡◌, ◌-◌, ◌++◌, take, is_ok, IfOk, if◌then◌else◌, vec_len, string_bytes};
 ghost use Rattle.rules.specs.Compiled.{compiled};
 ghost use Rattle.tapelist.specs.Listed.{Listed, refusal_line};

@@ -1,4 +1,6 @@
-// A table of formula texts, good and refused: each is compiled, and what came of it is written, one line a text.
+//! A table of formula texts, good and refused: each is compiled, and what came of it is written, one line a text.
+#![tactic(auto)]
+
 mod bytes;
 mod case;
 mod constants;
