@@ -6,7 +6,7 @@ use rules::limits::CELL_COUNT;
 
 fn clear_cell<S: WordStore>(store: &mut S, address: usize)
     requires { address < cell_count }
-    ensures { cells store.new ≡ slice_set (cells store.old) address 0 }
+    ensures { S.cells store.new ≡ slice_set (S.cells store.old) address 0 }
 {
     // the address is a cell's and 0 is small enough, so nothing is refused
     let _ = store.store(address, 0);
@@ -14,7 +14,7 @@ fn clear_cell<S: WordStore>(store: &mut S, address: usize)
 
 // Puts 0 into every cell of a store of any kind.
 pub fn clear<S: WordStore>(store: &mut S)
-    ensures { cells store.new ≡ zeros }
+    ensures { S.cells store.new ≡ zeros }
 {
     for address in 0..CELL_COUNT {
         clear_cell(store, address);

@@ -7,7 +7,7 @@ pub returns-in-Some : goal.returns-in-Some
 returns-in-Some c =
     let f = c.in-Some.ensures in
     record {
-      exact = sym (length_from_power _ c.in-Some.power f.power_le f.next-power-gt (omega arith));
+      exact = sym (length_from_power _ c.in-Some.power f.power_le f.next_power_gt (omega arith));
       few = omega (arith, f.bound);
     }
 

@@ -13,19 +13,19 @@ pub returns-then-byte-eq44 : goal.returns-then-byte-eq44
 returns-then-byte-eq44 c =
     split_found _ _ _ c.loop-i.i c.requires.0 c.requires.1 c.loop-i-test.true c.if-byte-eq44.true c.loop-i.invariant
 
-pub overflow-mul-number : goal.overflow-mul-number
-overflow-mul-number c =
+pub overflow_mul-number : goal.overflow_mul-number
+overflow_mul-number c =
     let t = turn _ _ c.loop-i.i _ c.requires c.loop-i-test.true c.if-byte-eq44.false refl c.loop-i.invariant in
     omega (arith, t.0)
 
-pub overflow-add-number : goal.overflow-add-number
-overflow-add-number c =
-    let t = turn _ _ c.loop-i.i _ c.requires c.loop-i-test.true c.if-byte-eq44.false c.saturating-sub.ensures c.loop-i.invariant in
+pub overflow_add-number : goal.overflow_add-number
+overflow_add-number c =
+    let t = turn _ _ c.loop-i.i _ c.requires c.loop-i-test.true c.if-byte-eq44.false c.saturating_sub.ensures c.loop-i.invariant in
     omega (arith, t.0)
 
 pub loop-i-preserved : goal.loop-i-preserved
 loop-i-preserved c =
-    (turn _ _ c.loop-i.i _ c.requires c.loop-i-test.true c.if-byte-eq44.false c.saturating-sub.ensures c.loop-i.invariant).1
+    (turn _ _ c.loop-i.i _ c.requires c.loop-i-test.true c.if-byte-eq44.false c.saturating_sub.ensures c.loop-i.invariant).1
 
 pub returns : goal.returns
 returns c = split_none _ _ _ c.loop-i.i c.requires.0 c.requires.1 (omega arith) c.loop-i.invariant

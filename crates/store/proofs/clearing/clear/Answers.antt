@@ -22,7 +22,7 @@ end old cur i n l h k e =
 
 pub loop-address-preserved : goal.loop-address-preserved
 loop-address-preserved g c =
-    step _ _ _ c.loop-address.address (g.met.S.WordStore.sized c.args.store.now) c.loop-address-test.true c.loop-address.invariant c.clear-cell.ensures
+    step _ _ _ c.loop-address.address (g.met.S.WordStore.sized c.args.store.now) c.loop-address-test.true c.loop-address.invariant c.clear_cell.ensures
 
 pub returns : goal.returns
 unfolding zeros

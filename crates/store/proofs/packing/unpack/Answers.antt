@@ -4,11 +4,11 @@ use Rattle.store.specs.Packing.{TwoDigits, pair_in, unpacked_on, unpacked}
 use Rattle.store.specs.Pairs.{unpack_step, pair_more, few_pairs}
 use Rattle.store.proofs.packing.unpack.Goals as goal
 
-pub overflow-mul-number : goal.overflow-mul-number
-overflow-mul-number c = let f = few_pairs c.loop-byte.number c.loop-byte.byte-index (omega arith) c.loop-byte.invariant.1 in omega arith
+pub overflow_mul-number : goal.overflow_mul-number
+overflow_mul-number c = let f = few_pairs c.loop-byte.number c.loop-byte.byte-index (omega arith) c.loop-byte.invariant.1 in omega arith
 
-pub overflow-add-number : goal.overflow-add-number
-overflow-add-number c =
+pub overflow_add-number : goal.overflow_add-number
+overflow_add-number c =
     let f = few_pairs c.loop-byte.number c.loop-byte.byte-index (omega arith) c.loop-byte.invariant.1 in
     let d = c.requires.digits c.loop-byte.byte-index in
     omega arith
@@ -20,7 +20,7 @@ turn bytes n p i h d e f b =
 
 pub loop-byte-preserved : goal.loop-byte-preserved
 loop-byte-preserved c =
-    turn _ c.loop-byte.number _ c.loop-byte.byte-index c.loop-byte-test.true (c.requires.digits c.loop-byte.byte-index) c.split-digits.ensures c.loop-byte.invariant.0 c.loop-byte.invariant.1
+    turn _ c.loop-byte.number _ c.loop-byte.byte-index c.loop-byte-test.true (c.requires.digits c.loop-byte.byte-index) c.split_digits.ensures c.loop-byte.invariant.0 c.loop-byte.invariant.1
 
 pub returns : goal.returns
 returns c =

@@ -3,29 +3,29 @@ use Rattle.std.proofs.lemmas.Bool.{leb-true}
 use Rattle.digits.proofs.Keeping.{push_length, push_held}
 use Rattle.digits.proofs.line.NumberLine.append.Goals as goal
 
-pub write-number-self-requires : goal.write-number-self-requires
-write-number-self-requires g c =
+pub write_number-self-requires : goal.write_number-self-requires
+write_number-self-requires g c =
     let s = c.args.self.now in
     let l = push_length g.row.N s.bytes s.len s.count c.args.number s.ok in
     let room = leb-true _ g.row.N c.requires in
     search (rules, l.0)
 
-pub overflow-add-self : goal.overflow-add-self
-overflow-add-self g c =
+pub overflow_add-self : goal.overflow_add-self
+overflow_add-self g c =
     let s = c.args.self.now in
     let l = push_length g.row.N s.bytes s.len s.count c.args.number s.ok in
     omega (arith, l.1)
 
-pub invariant-of-self : goal.invariant-of-self
-invariant-of-self g c =
+pub invariant_of-self : goal.invariant_of-self
+invariant_of-self g c =
     let s = c.args.self.now in
     let l = push_length g.row.N s.bytes s.len s.count c.args.number s.ok in
     let room = leb-true _ g.row.N c.requires in
-    ((push_held g.row.N s.bytes _ s.len s.count c.args.number _ s.ok (omega arith) c.write-number-self.ensures.whole (omega (arith, l.0)) c.write-number-self.ensures.text).0, tt)
+    ((push_held g.row.N s.bytes _ s.len s.count c.args.number _ s.ok (omega arith) c.write_number-self.ensures.whole (omega (arith, l.0)) c.write_number-self.ensures.text).0, tt)
 
 pub returns : goal.returns
 returns g c =
     let s = c.args.self.now in
     let l = push_length g.row.N s.bytes s.len s.count c.args.number s.ok in
     let room = leb-true _ g.row.N c.requires in
-    (push_held g.row.N s.bytes _ s.len s.count c.args.number _ s.ok (omega arith) c.write-number-self.ensures.whole (omega (arith, l.0)) c.write-number-self.ensures.text).1
+    (push_held g.row.N s.bytes _ s.len s.count c.args.number _ s.ok (omega arith) c.write_number-self.ensures.whole (omega (arith, l.0)) c.write_number-self.ensures.text).1

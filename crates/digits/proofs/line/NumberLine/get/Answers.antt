@@ -38,40 +38,40 @@ past line rest i index e h is =
     let l = length-drop i ns in
     sym (slice_get_past ns index (omega arith))
 
-pub first-number-requires : goal.first-number-requires
-first-number-requires g c = left c.args.self.now _ c.loop-passed.-passed c.loop-passed.invariant
+pub first_number-requires : goal.first_number-requires
+first_number-requires g c = left c.args.self.now _ c.loop-passed._passed c.loop-passed.invariant
 
-pub returns-in-err-size : goal.returns-in-err-size
-returns-in-err-size g c =
+pub returns-in_err-size : goal.returns-in_err-size
+returns-in_err-size g c =
     let l = c.loop-passed in
-    c.from-residual.ensures
-    ∙ past c.args.self.now _ l.-passed c.args.index l.invariant (omega arith) c.in-err-size.ensures
+    c.from_residual.ensures
+    ∙ past c.args.self.now _ l._passed c.args.index l.invariant (omega arith) c.in_err-size.ensures
 
-pub slice-bounds-rest-count : goal.slice-bounds-rest-count
-slice-bounds-rest-count g c =
+pub slice_bounds-rest-count : goal.slice_bounds-rest-count
+slice_bounds-rest-count g c =
     let l = c.loop-passed in
-    (next c.args.self.now _ l.-passed c.in-ok-size.field-0 l.invariant c.in-ok-size.ensures).0
+    (next c.args.self.now _ l._passed c.in_ok-size.field-0 l.invariant c.in_ok-size.ensures).0
 
-pub slice-bounds-rest-start : goal.slice-bounds-rest-start
-slice-bounds-rest-start g c = slice-bounds-rest-count g c
+pub slice_bounds-rest-start : goal.slice_bounds-rest-start
+slice_bounds-rest-start g c = slice_bounds-rest-count g c
 
 pub loop-passed-preserved : goal.loop-passed-preserved
 loop-passed-preserved g c =
     let l = c.loop-passed in
-    (next c.args.self.now _ l.-passed c.in-ok-size.field-0 l.invariant c.in-ok-size.ensures).1
+    (next c.args.self.now _ l._passed c.in_ok-size.field-0 l.invariant c.in_ok-size.ensures).1
 
-pub first-number-requires-2 : goal.first-number-requires-2
-first-number-requires-2 g c = left c.args.self.now _ c.loop-passed.-passed c.loop-passed.invariant
+pub first_number-requires-2 : goal.first_number-requires-2
+first_number-requires-2 g c = left c.args.self.now _ c.loop-passed._passed c.loop-passed.invariant
 
-pub returns-in-err-number : goal.returns-in-err-number
-returns-in-err-number g c =
+pub returns-in_err-number : goal.returns-in_err-number
+returns-in_err-number g c =
     let l = c.loop-passed in
-    c.from-residual-in-err-number.ensures
-    ∙ past c.args.self.now _ l.-passed c.args.index l.invariant (omega arith) c.in-err-number.ensures
+    c.from_residual-in_err-number.ensures
+    ∙ past c.args.self.now _ l._passed c.args.index l.invariant (omega arith) c.in_err-number.ensures
 
 pub returns : goal.returns
 returns g c =
     let l = c.loop-passed in
-    let same : l.-passed ≡ c.args.index = omega arith in
-    (next c.args.self.now _ l.-passed c.in-ok-number.field-0 l.invariant c.in-ok-number.ensures).2
+    let same : l._passed ≡ c.args.index = omega arith in
+    (next c.args.self.now _ l._passed c.in_ok-number.field-0 l.invariant c.in_ok-number.ensures).2
     ∙ ap (slice_get (numbers c.args.self.now)) same

@@ -10,4 +10,4 @@ pub returns : goal.returns
 returns g c =
     let s = c.args.self.now in
     let l = push_length g.row.N s.bytes s.len s.count c.args.number s.ok in
-    room _ s.len _ g.row.N s.ok.1 (l.0 ∙ ap (λ d. s.len + d + 1) (sym c.digit-count.ensures.exact))
+    room _ s.len _ g.row.N s.ok.1 (l.0 ∙ ap (λ d. s.len + d + 1) (sym c.digit_count.ensures.exact))

@@ -2,8 +2,8 @@ use Rattle.std.proofs.Common.{refl}
 use Rattle.store.specs.Cellwise.{cleared}
 use Rattle.store.proofs.packed_cells.PackedCells.new.Goals as goal
 
-pub invariant-of-result : goal.invariant-of-result
-invariant-of-result c = ((cleared _ _ refl c.new.ensures).0, tt)
+pub invariant_of-result : goal.invariant_of-result
+invariant_of-result c = ((cleared _ _ refl c.new.ensures).0, tt)
 
 pub returns : goal.returns
 returns c = (cleared _ _ refl c.new.ensures).1

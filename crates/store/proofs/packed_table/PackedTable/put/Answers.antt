@@ -13,5 +13,5 @@ put bs ws a k n e w p h s =
 
 pub returns : goal.returns
 returns c =
-    let r = put _ _ c.args.address _ c.args.number (omega arith) (c.copy-from-slice.ensures.after ∙ c.pack.ensures) c.requires.sound c.requires.cell c.requires.small in
+    let r = put _ _ c.args.address _ c.args.number (omega arith) (c.copy_from_slice.ensures.after ∙ c.pack.ensures) c.requires.sound c.requires.cell c.requires.small in
     record { after = r.0; sound = r.1 }

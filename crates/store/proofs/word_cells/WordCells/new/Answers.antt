@@ -7,8 +7,8 @@ use Rattle.store.proofs.word_cells.WordCells.new.Goals as goal
 sound : (l : List ℕ) (k : ℕ) → k ≡ cell_count → l ≡ replicate k 0 → Cells l
 sound l k n e = let z = zeroed l k e in (z.0 ∙ n, λ i. omega (arith, z.1 i))
 
-pub invariant-of-result : goal.invariant-of-result
-invariant-of-result c = (sound _ _ refl c.new.ensures, tt)
+pub invariant_of-result : goal.invariant_of-result
+invariant_of-result c = (sound _ _ refl c.new.ensures, tt)
 
 pub returns : goal.returns
 unfolding zeros
