@@ -5,7 +5,7 @@ use Rattle.reader.proofs.line.goal.Goals as goal
 
 pub returns-in-err-v : goal.returns-in-err-v
 returns-in-err-v c =
-    let p = err_from_is_err_and c.from-residual.result c.from-residual.ensures.1 in
+    let p = err_from_is_err_and c.from_residual.result c.from_residual.ensures.1 in
     rw (p.1, p.2) (target_fails _ c.args.text.now _ c.in-Pointer.ensures c.in-err-v.ensures.reads)
 
 pub returns-in-Variable : goal.returns-in-Variable

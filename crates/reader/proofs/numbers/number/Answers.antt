@@ -4,14 +4,14 @@ use Rattle.std.proofs.lemmas.List.{take_all}
 use Rattle.reader.proofs.Tens.{ten_fits, ten_more}
 use Rattle.reader.proofs.numbers.number.Goals as goal
 
-pub overflow-mul-number : goal.overflow-mul-number
-overflow-mul-number c = omega (arith, ten_fits c.loop-d.number c.loop-d.d-index 0 c.loop-d.invariant.1 (omega arith) (omega arith))
+pub overflow_mul-number : goal.overflow_mul-number
+overflow_mul-number c = omega (arith, ten_fits c.loop-d.number c.loop-d.d-index 0 c.loop-d.invariant.1 (omega arith) (omega arith))
 
-pub overflow-sub-number : goal.overflow-sub-number
-overflow-sub-number c = (c.requires.digits _ c.loop-d-test.true).0
+pub overflow_sub-number : goal.overflow_sub-number
+overflow_sub-number c = (c.requires.digits _ c.loop-d-test.true).0
 
-pub overflow-add-number : goal.overflow-add-number
-overflow-add-number c =
+pub overflow_add-number : goal.overflow_add-number
+overflow_add-number c =
     let b = c.requires.digits _ c.loop-d-test.true in
     omega (arith, ten_fits c.loop-d.number c.loop-d.d-index (get_or c.args.digits.now c.loop-d.d-index 0 - 48) c.loop-d.invariant.1 (omega arith) (omega arith))
 

@@ -10,15 +10,15 @@ use Rattle.reader.proofs.pairs.+operand_pair_second.Goals as goal
 -- Each way out of `operand` is one case of the definition: the first byte's start picks the case, and what the calls answered fills it in.
 -- Each operand leaves one of its bytes over, and an operation takes four: a pair in parentheses has the two parentheses, the sign and the byte that each operand leaves, so again one is over. So four times the operations that are held and the bytes that are left never grow past what a line of 80 bytes begins with, and the array has room.
 
-pub operand-returns-in-default : goal.operand-returns-in-default
-operand-returns-in-default t c = search (rules, none_fails)
+pub operand-returns-in_default : goal.operand-returns-in_default
+operand-returns-in_default t c = search (rules, none_fails)
 
 pub operand-returns-then-room-eq0 : goal.operand-returns-then-room-eq0
 operand-returns-then-room-eq0 t c = search (rules, opens_none)
 
 pub operand-returns-in-err-inside : goal.operand-returns-in-err-inside
 operand-returns-in-err-inside t c =
-    let p = err_from_is_err_and c.from-residual.result c.from-residual.ensures.1 in
+    let p = err_from_is_err_and c.from_residual.result c.from_residual.ensures.1 in
     rw (p.1, p.2) (record { reads = opens_fails _ _ _ _ c.in-Parenthesis.ensures (omega arith) c.in-err-inside.ensures.reads; spent = tt })
 
 pub operand-returns-in-err-after : goal.operand-returns-in-err-after
@@ -61,21 +61,21 @@ pub operand-returns-in-Other : goal.operand-returns-in-Other
 operand-returns-in-Other t c = search (rules, other_fails)
 
 pub second-push-requires : goal.second-push-requires
-second-push-requires t c = omega (arith, c.in-ok-sign.ensures.rest, c.in-ok-right.ensures.spent)
+second-push-requires t c = omega (arith, c.in_ok-sign.ensures.rest, c.in_ok-right.ensures.spent)
 
 pub second-returns : goal.second-returns
 second-returns t c =
-    let s = c.in-ok-sign.ensures.reads in
-    let r = c.in-ok-right.ensures.reads in
+    let s = c.in_ok-sign.ensures.reads in
+    let r = c.in_ok-right.ensures.reads in
     record {
-      reads = ((c.in-ok-sign.sign, r.0), rw (s, r.1), adds (held c.args.out.now) (held c.operand.new.out) (held c.push.new.self) c.args.left c.in-ok-right.right r.0 c.in-ok-sign.sign c.args.waiting c.waiting-after.result r.3 c.push.ensures.held r.2 c.waiting-after.ensures.is);
-      spent = omega (arith, c.push.ensures.len, c.in-ok-sign.ensures.rest, c.in-ok-right.ensures.spent);
+      reads = ((c.in_ok-sign.sign, r.0), rw (s, r.1), adds (held c.args.out.now) (held c.operand.new.out) (held c.push.new.self) c.args.left c.in_ok-right.right r.0 c.in_ok-sign.sign c.args.waiting c.waiting_after.result r.3 c.push.ensures.held r.2 c.waiting_after.ensures.is);
+      spent = omega (arith, c.push.ensures.len, c.in_ok-sign.ensures.rest, c.in_ok-right.ensures.spent);
     }
 
 pub pair-returns : goal.pair-returns
 pair-returns t c =
-    let l = c.in-ok-left.ensures.reads in
+    let l = c.in_ok-left.ensures.reads in
     record {
       reads = second_pair c.args.room c.args.waiting _ _ c.args.out.now c.operand.new.out c.second.new.out l.0 _ _ l.1 l.2 l.3 c.second.ensures.reads;
-      spent = spent_on c.second.result (4 * c.second.new.out.len) (4 * c.operand.new.out.len + length c.in-ok-left.after.now + 2) _ (omega (arith, c.in-ok-left.ensures.spent)) c.second.ensures.spent;
+      spent = spent_on c.second.result (4 * c.second.new.out.len) (4 * c.operand.new.out.len + length c.in_ok-left.after.now + 2) _ (omega (arith, c.in_ok-left.ensures.spent)) c.second.ensures.spent;
     }

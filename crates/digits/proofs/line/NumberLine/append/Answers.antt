@@ -21,7 +21,7 @@ invariant_of-self g c =
     let s = c.args.self.now in
     let l = push_length g.row.N s.bytes s.len s.count c.args.number s.ok in
     let room = leb-true _ g.row.N c.requires in
-    ((push_held g.row.N s.bytes _ s.len s.count c.args.number _ s.ok (omega arith) c.write_number-self.ensures.whole (omega (arith, l.0)) c.write_number-self.ensures.text).0, tt)
+    record { ok = (push_held g.row.N s.bytes _ s.len s.count c.args.number _ s.ok (omega arith) c.write_number-self.ensures.whole (omega (arith, l.0)) c.write_number-self.ensures.text).0 }
 
 pub returns : goal.returns
 returns g c =

@@ -21,7 +21,7 @@ overflow_sub-self-2 g c =
 pub invariant_of-self : goal.invariant_of-self
 invariant_of-self g c =
     let s = c.args.self.now in
-    ((drop_held g.row.N s.bytes _ s.len s.count c.args.first s.ok c.requires c.move_to_front.ensures.whole c.move_to_front.ensures.text).0, tt)
+    record { ok = (drop_held g.row.N s.bytes _ s.len s.count c.args.first s.ok c.requires c.move_to_front.ensures.whole c.move_to_front.ensures.text).0 }
 
 pub returns : goal.returns
 returns g c =
