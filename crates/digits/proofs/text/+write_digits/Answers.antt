@@ -8,11 +8,6 @@ use Rattle.digits.proofs.text.+write_digits.Goals.{then-number-ge10, else-number
 one_more : (n : ℕ) → 10 ≤ n → n < 2 ^ 64 → length (decimal n) ≡ length (decimal (n / 10)) + 1
 one_more n h small = ap length (decimal_step n h small) ∙ length_push (decimal (n / 10)) (48 + n % 10)
 
-pub write_digits-last-requires : goal.write_digits-last-requires
-write_digits-last-requires g t c =
-    let l = one_more c.args.number c.if-number-ge10.true (omega arith) in
-    search rules
-
 pub bounds-bytes-last : goal.bounds-bytes-last
 bounds-bytes-last g t c =
     let some = decimal_nonempty c.args.number (omega arith) in

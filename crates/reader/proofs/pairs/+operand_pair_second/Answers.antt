@@ -16,32 +16,32 @@ operand-returns-in_default t c = search (rules, none_fails)
 pub operand-returns-then-room-eq0 : goal.operand-returns-then-room-eq0
 operand-returns-then-room-eq0 t c = search (rules, opens_none)
 
-pub operand-returns-in-err-inside : goal.operand-returns-in-err-inside
-operand-returns-in-err-inside t c =
+pub operand-returns-in_err-inside-in-Parenthesis : goal.operand-returns-in_err-inside-in-Parenthesis
+operand-returns-in_err-inside-in-Parenthesis t c =
     let p = err_from_is_err_and c.from_residual.result c.from_residual.ensures.1 in
-    rw (p.1, p.2) (record { reads = opens_fails _ _ _ _ c.in-Parenthesis.ensures (omega arith) c.in-err-inside.ensures.reads; spent = tt })
+    rw (p.1, p.2) (record { reads = opens_fails _ _ _ _ c.in-Parenthesis.ensures (omega arith) c.in_err-inside-in-Parenthesis.ensures.reads; spent = tt })
 
-pub operand-returns-in-err-after : goal.operand-returns-in-err-after
-operand-returns-in-err-after t c =
-    let p = err_from_is_err_and c.from-residual-in-err-after.result c.from-residual-in-err-after.ensures.1 in
-    let q = c.in-ok-inside.ensures.reads in
-    rw (p.1, p.2) (record { reads = opens_unclosed c.args.room _ c.args.text.now c.in-ok-inside.inside.now _ q.0 c.in-Parenthesis.ensures (omega arith) q.1 c.in-err-after.ensures.reads; spent = tt })
+pub operand-returns-in_err-after-in-Parenthesis : goal.operand-returns-in_err-after-in-Parenthesis
+operand-returns-in_err-after-in-Parenthesis t c =
+    let p = err_from_is_err_and c.from_residual-in_err-after-in-Parenthesis.result c.from_residual-in_err-after-in-Parenthesis.ensures.1 in
+    let q = c.in_ok-inside-in-Parenthesis.ensures.reads in
+    rw (p.1, p.2) (record { reads = opens_unclosed c.args.room _ c.args.text.now c.in_ok-inside-in-Parenthesis.inside.now _ q.0 c.in-Parenthesis.ensures (omega arith) q.1 c.in_err-after-in-Parenthesis.ensures.reads; spent = tt })
 
-pub operand-returns-in-err-v : goal.operand-returns-in-err-v
-operand-returns-in-err-v t c =
-    let p = err_from_is_err_and c.from-residual-in-err-v.result c.from-residual-in-err-v.ensures.1 in
-    rw (p.1, p.2) (record { reads = points_fails _ _ _ _ c.in-Pointer.ensures c.in-err-v.ensures.reads; spent = tt })
+pub operand-returns-in_err-v-in-Pointer : goal.operand-returns-in_err-v-in-Pointer
+operand-returns-in_err-v-in-Pointer t c =
+    let p = err_from_is_err_and c.from_residual-in_err-v-in-Pointer.result c.from_residual-in_err-v-in-Pointer.ensures.1 in
+    rw (p.1, p.2) (record { reads = points_fails _ _ _ _ c.in-Pointer.ensures c.in_err-v-in-Pointer.ensures.reads; spent = tt })
 
-pub operand-returns-in-err-n : goal.operand-returns-in-err-n
-operand-returns-in-err-n t c =
-    let p = err_from_is_err_and c.from-residual-in-err-n.result c.from-residual-in-err-n.ensures.1 in
-    rw (p.1, p.2) (record { reads = constant_fails _ _ _ _ c.in-Digit.ensures c.in-err-n.ensures.reads; spent = tt })
+pub operand-returns-in_err-n-in-Digit : goal.operand-returns-in_err-n-in-Digit
+operand-returns-in_err-n-in-Digit t c =
+    let p = err_from_is_err_and c.from_residual-in_err-n-in-Digit.result c.from_residual-in_err-n-in-Digit.ensures.1 in
+    rw (p.1, p.2) (record { reads = constant_fails _ _ _ _ c.in-Digit.ensures c.in_err-n-in-Digit.ensures.reads; spent = tt })
 
-pub operand-returns-in-ok-after : goal.operand-returns-in-ok-after
-operand-returns-in-ok-after t c =
-    let q = c.in-ok-inside.ensures.reads in
+pub operand-returns-in_ok-after-in-Parenthesis : goal.operand-returns-in_ok-after-in-Parenthesis
+operand-returns-in_ok-after-in-Parenthesis t c =
+    let q = c.in_ok-inside-in-Parenthesis.ensures.reads in
     record {
-      reads = (q.0, opens c.args.room _ c.args.text.now c.in-ok-inside.inside.now c.in-ok-after.after.now q.0 c.in-Parenthesis.ensures (omega arith) q.1 c.in-ok-after.ensures.reads, sym q.2, q.3);
+      reads = (q.0, opens c.args.room _ c.args.text.now c.in_ok-inside-in-Parenthesis.inside.now c.in_ok-after-in-Parenthesis.after.now q.0 c.in-Parenthesis.ensures (omega arith) q.1 c.in_ok-after-in-Parenthesis.ensures.reads, sym q.2, q.3);
       spent = search (rules, length-take, length-drop);
     }
 
@@ -51,11 +51,11 @@ operand-returns-in-Variable t c = record { reads = (atom (Variable _), variable_
 pub operand-returns-in-Letter : goal.operand-returns-in-Letter
 operand-returns-in-Letter t c = record { reads = (atom (Letter _), letter_is _ _ c.in-Letter.ensures, refl, sym (append-nil _)); spent = search (rules, length-take, length-drop) }
 
-pub operand-returns-in-ok-v : goal.operand-returns-in-ok-v
-operand-returns-in-ok-v t c = record { reads = (atom (Pointed _), points _ _ _ _ c.in-Pointer.ensures c.in-ok-v.ensures.reads, refl, sym (append-nil _)); spent = search (rules, length-take, length-drop) }
+pub operand-returns-in_ok-v-in-Pointer : goal.operand-returns-in_ok-v-in-Pointer
+operand-returns-in_ok-v-in-Pointer t c = record { reads = (atom (Pointed _), points _ _ _ _ c.in-Pointer.ensures c.in_ok-v-in-Pointer.ensures.reads, refl, sym (append-nil _)); spent = search (rules, length-take, length-drop) }
 
-pub operand-returns-in-ok-n : goal.operand-returns-in-ok-n
-operand-returns-in-ok-n t c = record { reads = (atom (Constant _), constant_is _ _ _ _ c.in-Digit.ensures c.in-ok-n.ensures.reads, refl, sym (append-nil _)); spent = omega (arith, c.in-ok-n.ensures.rest, digit_some c.args.text.now c.in-Digit.ensures) }
+pub operand-returns-in_ok-n-in-Digit : goal.operand-returns-in_ok-n-in-Digit
+operand-returns-in_ok-n-in-Digit t c = record { reads = (atom (Constant _), constant_is _ _ _ _ c.in-Digit.ensures c.in_ok-n-in-Digit.ensures.reads, refl, sym (append-nil _)); spent = omega (arith, c.in_ok-n-in-Digit.ensures.rest, digit_some c.args.text.now c.in-Digit.ensures) }
 
 pub operand-returns-in-Other : goal.operand-returns-in-Other
 operand-returns-in-Other t c = search (rules, other_fails)
