@@ -7,41 +7,41 @@ use Rattle.compiler.specs.Lines.{read_lines}
 use Rattle.compiler.proofs.Finish.{compiled_long, compiled_refused, readable, its_marks, compiled_loose, found, compiled_past, compiled_over, compiled_tape, its_length}
 use Rattle.compiler.proofs.compiling.plan_of.Goals as goal
 
-pub returns-then-text-gt-TEXT-LIMIT : goal.returns-then-text-gt-TEXT-LIMIT
-returns-then-text-gt-TEXT-LIMIT c = compiled_long _ c.if-text-gt-TEXT-LIMIT.true
+pub returns-then-text-gt-TEXT_LIMIT : goal.returns-then-text-gt-TEXT_LIMIT
+returns-then-text-gt-TEXT_LIMIT c = compiled_long _ c.if-text-gt-TEXT_LIMIT.true
 
-pub returns-in-err-found : goal.returns-in-err-found
-returns-in-err-found c =
-    let p = err_from_is_err_and c.from-residual.result c.from-residual.ensures.1 in
-    rw (p.1, p.2) (compiled_refused _ _ c.if-text-gt-TEXT-LIMIT.false c.in-err-found.ensures)
+pub returns-in_err-found : goal.returns-in_err-found
+returns-in_err-found c =
+    let p = err_from_is_err_and c.from_residual.result c.from_residual.ensures.1 in
+    rw (p.1, p.2) (compiled_refused _ _ c.if-text-gt-TEXT_LIMIT.false c.in_err-found.ensures)
 
-pub take-inventory-requires : goal.take-inventory-requires
-take-inventory-requires c = let s = c.in-ok-found.ensures in record { reads = readable c.args.text.now s.0 s.1; short = c.if-text-gt-TEXT-LIMIT.false }
+pub take_inventory-requires : goal.take_inventory-requires
+take_inventory-requires c = let s = c.in_ok-found.ensures in record { reads = readable c.args.text.now s.0 s.1; short = c.if-text-gt-TEXT_LIMIT.false }
 
-pub returns-in-err-inventory : goal.returns-in-err-inventory
-returns-in-err-inventory c =
-    let p = err_from_is_err_and c.from-residual-in-err-inventory.result c.from-residual-in-err-inventory.ensures.1 in
-    let s = c.in-ok-found.ensures in
-    rw (p.1, p.2) (compiled_loose c.args.text.now s.0 _ c.if-text-gt-TEXT-LIMIT.false s.1 (c.in-err-inventory.ensures (read_lines (cut c.args.text.now)) (its_marks c.in-ok-found.found c.args.text.now s.0 s.1 s.2)))
+pub returns-in_err-inventory : goal.returns-in_err-inventory
+returns-in_err-inventory c =
+    let p = err_from_is_err_and c.from_residual-in_err-inventory.result c.from_residual-in_err-inventory.ensures.1 in
+    let s = c.in_ok-found.ensures in
+    rw (p.1, p.2) (compiled_loose c.args.text.now s.0 _ c.if-text-gt-TEXT_LIMIT.false s.1 (c.in_err-inventory.ensures (read_lines (cut c.args.text.now)) (its_marks c.in_ok-found.found c.args.text.now s.0 s.1 s.2)))
 
 pub returns-in-Some : goal.returns-in-Some
 returns-in-Some c =
-    let s = c.in-ok-found.ensures in
-    let f = found c.in-ok-found.found c.args.text.now s.0 c.in-ok-inventory.inventory c.if-text-gt-TEXT-LIMIT.false s.1 s.2 c.in-ok-inventory.ensures in
-    compiled_past c.args.text.now s.0 c.in-ok-inventory.inventory _ f (ap shown c.in-Some.is)
+    let s = c.in_ok-found.ensures in
+    let f = found c.in_ok-found.found c.args.text.now s.0 c.in_ok-inventory.inventory c.if-text-gt-TEXT_LIMIT.false s.1 s.2 c.in_ok-inventory.ensures in
+    compiled_past c.args.text.now s.0 c.in_ok-inventory.inventory _ f (ap shown c.in-Some.is)
 
 pub returns-in-Some-over : goal.returns-in-Some-over
 returns-in-Some-over c =
-    let s = c.in-ok-found.ensures in
-    let f = found c.in-ok-found.found c.args.text.now s.0 c.in-ok-inventory.inventory c.if-text-gt-TEXT-LIMIT.false s.1 s.2 c.in-ok-inventory.ensures in
-    compiled_over c.in-ok-found.found c.args.text.now s.0 c.in-ok-inventory.inventory c.in-Some-over.line f c.in-default.is s.2 c.in-Some-over.is
+    let s = c.in_ok-found.ensures in
+    let f = found c.in_ok-found.found c.args.text.now s.0 c.in_ok-inventory.inventory c.if-text-gt-TEXT_LIMIT.false s.1 s.2 c.in_ok-inventory.ensures in
+    compiled_over c.in_ok-found.found c.args.text.now s.0 c.in_ok-inventory.inventory c.in-Some-over.line f c.in_default.is s.2 c.in-Some-over.is
 
 pub returns : goal.returns
 returns c =
-    let s = c.in-ok-found.ensures in
-    let f = found c.in-ok-found.found c.args.text.now s.0 c.in-ok-inventory.inventory c.if-text-gt-TEXT-LIMIT.false s.1 s.2 c.in-ok-inventory.ensures in
+    let s = c.in_ok-found.ensures in
+    let f = found c.in_ok-found.found c.args.text.now s.0 c.in_ok-inventory.inventory c.if-text-gt-TEXT_LIMIT.false s.1 s.2 c.in_ok-inventory.ensures in
     record {
-      is = compiled_tape c.in-ok-found.found c.args.text.now s.0 c.in-ok-inventory.inventory f c.in-default.is s.2 c.in-default-over.is;
+      is = compiled_tape c.in_ok-found.found c.args.text.now s.0 c.in_ok-inventory.inventory f c.in_default.is s.2 c.in_default-over.is;
       readable = readable c.args.text.now s.0 s.1;
-      length = its_length c.in-ok-found.found c.args.text.now s.0 (table c.in-ok-inventory.inventory.constants) _ s.1 s.2 (ap length c.as-slice.ensures.value);
+      length = its_length c.in_ok-found.found c.args.text.now s.0 (table c.in_ok-inventory.inventory.constants) _ s.1 s.2 (ap length c.as_slice.ensures.value);
     }

@@ -7,12 +7,12 @@ use Rattle.compiler.proofs.cutting.next_line.Goals as goal
 pub returns-then-n-text : goal.returns-then-n-text
 returns-then-n-text c = record { cuts = cut_tail c.args.text.now (omega arith); shorter = tt }
 
-pub split-at-requires : goal.split-at-requires
-split-at-requires c = omega (arith, prefix_len-le-length in_line c.args.text.now)
+pub split_at-requires : goal.split_at-requires
+split_at-requires c = omega (arith, prefix_len-le-length in_line c.args.text.now)
 
 pub returns-in-len1-up : goal.returns-in-len1-up
 returns-in-len1-up c =
     record {
-      cuts = cut_parts c.args.text.now _ _ c.until-end-n.result c.until-end-n.ensures (omega (arith, prefix_len-le-length in_line c.args.text.now)) c.split-at.ensures.front c.split-at.ensures.back;
+      cuts = cut_parts c.args.text.now _ _ c.until_end-n.result c.until_end-n.ensures (omega (arith, prefix_len-le-length in_line c.args.text.now)) c.split_at.ensures.front c.split_at.ensures.back;
       shorter = simp (length-take, length-drop) (omega arith);
     }

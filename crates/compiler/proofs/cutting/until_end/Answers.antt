@@ -4,8 +4,8 @@ use Rattle.std.proofs.lemmas.Bool.Decides.{nat_tests}
 use Rattle.compiler.specs.Lines.{in_line}
 use Rattle.compiler.proofs.cutting.until_end.Goals as goal
 
-pub returns-then-b-eq-LINE-END : goal.returns-then-b-eq-LINE-END
-returns-then-b-eq-LINE-END c =
+pub returns-then-b-eq-LINE_END : goal.returns-then-b-eq-LINE_END
+returns-then-b-eq-LINE_END c =
     let e : in_line (get_or c.args.text.now c.loop-i.i 0) ≡ false = grind (arith, nat_tests) in
     omega (arith, c.loop-i.invariant, prefix_len-drop_no in_line c.args.text.now c.loop-i.i 0 c.loop-i-test.true e)
 

@@ -7,8 +7,8 @@ loop-i-init c = (refl, refl)
 
 pub loop-i-preserved : goal.loop-i-preserved
 loop-i-preserved c =
-    let n = ap length c.as-slice-held.ensures.value in
-    (constant_turn c.loop-i.tape c.as-slice-held.result.now _ c.loop-i.i c.word.result c.loop-i-test.true (omega (arith, c.requires)) c.word.ensures c.loop-i.invariant.0, constant_back c.loop-i.tape c.args.tape.now c.loop-i.i _ _ c.loop-i.invariant.1)
+    let n = ap length c.as_slice-held.ensures.value in
+    (constant_turn c.loop-i.tape c.as_slice-held.result.now _ c.loop-i.i c.word.result c.loop-i-test.true (omega (arith, c.requires)) c.word.ensures c.loop-i.invariant.0, constant_back c.loop-i.tape c.args.tape.now c.loop-i.i _ _ c.loop-i.invariant.1)
 
 pub returns : goal.returns
-returns c = constants_all c.loop-i.tape c.args.tape.now c.as-slice-held.result.now _ c.loop-i.i c.as-slice-held.ensures.value (omega arith) c.loop-i.invariant.0 c.loop-i.invariant.1
+returns c = constants_all c.loop-i.tape c.args.tape.now c.as_slice-held.result.now _ c.loop-i.i c.as_slice-held.ensures.value (omega arith) c.loop-i.invariant.0 c.loop-i.invariant.1

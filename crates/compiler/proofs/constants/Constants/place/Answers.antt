@@ -9,16 +9,16 @@ loop-i-init c = omega arith
 
 pub returns-then-c-number : goal.returns-then-c-number
 returns-then-c-number c =
-    let e : other c.args.number (get_or c.as-slice-held.result.now c.loop-i.i 0) ≡ false = grind (arith, nat_tests) in
-    let f : c.loop-i.i ≡ place_of c.args.number c.as-slice-held.result.now = omega (arith, c.loop-i.invariant, prefix_len-drop_no (other c.args.number) c.as-slice-held.result.now c.loop-i.i 0 c.loop-i-test.true e) in
-    record { is = f ∙ ap (place_of c.args.number) c.as-slice-held.ensures.value; few = omega (arith, c.as-slice-held.ensures.few) }
+    let e : other c.args.number (get_or c.as_slice-held.result.now c.loop-i.i 0) ≡ false = grind (arith, nat_tests) in
+    let f : c.loop-i.i ≡ place_of c.args.number c.as_slice-held.result.now = omega (arith, c.loop-i.invariant, prefix_len-drop_no (other c.args.number) c.as_slice-held.result.now c.loop-i.i 0 c.loop-i-test.true e) in
+    record { is = f ∙ ap (place_of c.args.number) c.as_slice-held.ensures.value; few = omega (arith, c.as_slice-held.ensures.few) }
 
 pub loop-i-preserved : goal.loop-i-preserved
 loop-i-preserved c =
-    let e : other c.args.number (get_or c.as-slice-held.result.now c.loop-i.i 0) ≡ true = grind (arith, nat_tests) in
-    omega (arith, c.loop-i.invariant, prefix_len-drop_yes (other c.args.number) c.as-slice-held.result.now c.loop-i.i 0 c.loop-i-test.true e)
+    let e : other c.args.number (get_or c.as_slice-held.result.now c.loop-i.i 0) ≡ true = grind (arith, nat_tests) in
+    omega (arith, c.loop-i.invariant, prefix_len-drop_yes (other c.args.number) c.as_slice-held.result.now c.loop-i.i 0 c.loop-i-test.true e)
 
 pub returns : goal.returns
 returns c =
-    let f : length c.as-slice-held.result.now ≡ place_of c.args.number c.as-slice-held.result.now = omega (arith, c.loop-i.invariant, prefix_len-drop_all (other c.args.number) c.as-slice-held.result.now c.loop-i.i (omega arith)) in
-    record { is = f ∙ ap (place_of c.args.number) c.as-slice-held.ensures.value; few = omega (arith, c.as-slice-held.ensures.few) }
+    let f : length c.as_slice-held.result.now ≡ place_of c.args.number c.as_slice-held.result.now = omega (arith, c.loop-i.invariant, prefix_len-drop_all (other c.args.number) c.as_slice-held.result.now c.loop-i.i (omega arith)) in
+    record { is = f ∙ ap (place_of c.args.number) c.as_slice-held.ensures.value; few = omega (arith, c.as_slice-held.ensures.few) }

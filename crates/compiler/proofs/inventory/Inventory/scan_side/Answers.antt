@@ -10,17 +10,17 @@ use Rattle.compiler.proofs.inventory.Inventory.scan_side.Goals as goal
 pub loop-i-init : goal.loop-i-init
 loop-i-init c = (refl, λ ks m. refl)
 
-pub returns-in-err-inside : goal.returns-in-err-inside
-returns-in-err-inside c =
-    let p = err_from_is_err_and c.from-residual.result c.from-residual.ensures.1 in
+pub returns-in_err-inside : goal.returns-in_err-inside
+returns-in_err-inside c =
+    let p = err_from_is_err_and c.from_residual.result c.from_residual.ensures.1 in
     let t = take_rest c.args.side.now c.loop-i.i in
-    rw (p.1, p.2) (λ ks m. c.loop-i.invariant.1 ks m ∙ (ap (λ (o : List ℕ). first_loose ks (scan c.args.line c.loop-i.inside (3 + c.loop-i.i) o)) (sym t) ∙ c.in-err-inside.ensures ks m))
+    rw (p.1, p.2) (λ ks m. c.loop-i.invariant.1 ks m ∙ (ap (λ (o : List ℕ). first_loose ks (scan c.args.line c.loop-i.inside (3 + c.loop-i.i) o)) (sym t) ∙ c.in_err-inside.ensures ks m))
 
 pub loop-i-preserved : goal.loop-i-preserved
 loop-i-preserved c =
     let t = take_rest c.args.side.now c.loop-i.i in
-    let v = c.in-ok-inside.ensures in
-    let s = scan_turn c.args.line c.loop-i.i c.in-ok-inside.inside c.args.side.now _ t in (
+    let v = c.in_ok-inside.ensures in
+    let s = scan_turn c.args.line c.loop-i.i c.in_ok-inside.inside c.args.side.now _ t in (
       ap (λ (o : List Mention). tallied o (kept c.visit.new.self)) (sym s) ∙ (sym v.0 ∙ (ap (λ (o : List ℕ). tallied (scan c.args.line c.loop-i.inside (3 + c.loop-i.i) o) (kept c.loop-i.self)) t ∙ c.loop-i.invariant.0)),
       λ ks m. c.loop-i.invariant.1 ks m ∙ (ap (λ (o : List ℕ). first_loose ks (scan c.args.line c.loop-i.inside (3 + c.loop-i.i) o)) (sym t) ∙ (v.1 ks m ∙ ap (first_loose ks) s)),
     )

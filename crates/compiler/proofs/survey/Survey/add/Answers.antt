@@ -27,6 +27,6 @@ returns c =
     let g = group_letter c.args.bytes.now _ f.0 f.1 f.2 in
     let w = group_letter c.args.bytes.now _ f.0 f.1 refl in
     record {
-      reads = λ above t k. (f.0, allowed_line c.args.bytes.now t above f.0 f.1 (admits_allowed c.args.self.now above _ f.0 _ k g.0 g.1 (ap (λ (o : LineParts). o.group) f.2) c.if-not-admits.ensures), counted_more c.args.self.now c.count.new.self above f.0 w.0 w.1 k (grown c.args.self.now c.count.new.self _ f.0 c.instructions-of.result f.2 (c.instructions-of.ensures.is f.0 f.2 f.3) (ap (λ (o : Groups). o.seen) c.count.ensures.groups ∙ c.note.ensures.seen) (ap (λ (o : Groups). o.awaited) c.count.ensures.groups ∙ c.note.ensures.awaited) c.count.ensures.lines c.count.ensures.instructions c.count.ensures.heads c.count.ensures.over c.count.ensures.last));
+      reads = λ above t k. (f.0, allowed_line c.args.bytes.now t above f.0 f.1 (admits_allowed c.args.self.now above _ f.0 _ k g.0 g.1 (ap (λ (o : LineParts). o.group) f.2) c.if-not-admits.ensures), counted_more c.args.self.now c.count.new.self above f.0 w.0 w.1 k (grown c.args.self.now c.count.new.self _ f.0 c.instructions_of.result f.2 (c.instructions_of.ensures.is f.0 f.2 f.3) (ap (λ (o : Groups). o.seen) c.count.ensures.groups ∙ c.note.ensures.seen) (ap (λ (o : Groups). o.awaited) c.count.ensures.groups ∙ c.note.ensures.awaited) c.count.ensures.lines c.count.ensures.instructions c.count.ensures.heads c.count.ensures.over c.count.ensures.last));
       lines = c.count.ensures.lines;
     }
