@@ -4,4 +4,4 @@ use Rattle.tapelist.proofs.keep.Goals as goal
 
 -- the whole chunk finds room
 pub returns : goal.returns
-returns c = search (rules, take_all c.saturating-sub-room.result c.args.chunk.now c.if-room-chunk.false)
+returns c = search (rules, take_all c.saturating_sub-room.result c.args.chunk.now c.if-room-chunk.false)
