@@ -2,7 +2,7 @@
 use Rattle.std.proofs.Common.{◌≡◌, ℕ, suc, ◌+◌, ◌*◌, ◌/◌, ◌%◌, ◌^◌, ◌<◌, ◌≤◌, List, [], ◌∷◌, ◌++◌, length, decimal, ap, ◌∙◌, ⊎_elim, add-one, arith}
 use native.Mathlib.Nat.{pow-le-pow_right}
 use Rattle.std.proofs.lemmas.List.{length_push}
-use Rattle.std.proofs.lemmas.Fmt.{decimal_by_steps, length-decimal-le}
+use Rattle.std.proofs.lemmas.Fmt.{decimal_by_steps, decimal_step, length-decimal-le}
 use Rattle.std.proofs.lemmas.Bool.{cases_lt}
 
 -- Each digit more makes the power ten times as large, and the number at most ten times and nine.
@@ -23,3 +23,7 @@ length_from_power n k low high small =
     (λ more. omega arith)
     (λ few. absurd (let p = pow-le-pow_right {n = 10} (omega arith) few in omega arith))
     (cases_lt k (length (decimal n)))
+
+-- The last digit is one more than those of the tenth part.
+pub one_more : (n : ℕ) → 10 ≤ n → n < 2 ^ 64 → length (decimal n) ≡ length (decimal (n / 10)) + 1
+one_more n h small = ap length (decimal_step n h small) ∙ length_push (decimal (n / 10)) (48 + n % 10)

@@ -21,10 +21,8 @@ pub(crate) fn digit_count(number: u64) -> usize
 }
 
 // Writes the digits from `start` on, and answers where they end.
-fn write_digits<const N: usize>(bytes: &mut [u8; N], start: usize, number: u64) -> usize
-    requires whole { length bytes.old ≡ N }
-    requires room { start + length (decimal number) ≤ N }
-    ensures whole { length bytes.new ≡ N }
+fn write_digits(bytes: &mut [u8], start: usize, number: u64) -> usize
+    requires { start + length (decimal number) ≤ length bytes.old }
     ensures end { result ≡ start + length (decimal number) }
     ensures text { take result bytes.new ≡ take start bytes.old ++ decimal number }
 {

@@ -1,15 +1,17 @@
 use Rattle.std.proofs.Common.{◌≡◌, ℕ, ◌+◌, ◌/◌, ◌%◌, ◌^◌, ◌<◌, ◌≤◌, length, decimal, ap, ◌∙◌, append_assoc, arith, rules}
 use Rattle.std.proofs.lemmas.Fmt.{decimal_digit, decimal_step, decimal_nonempty}
 use Rattle.std.proofs.lemmas.List.{length_push, take_more_set}
+use Rattle.digits.proofs.Lengths.{one_more}
 use Rattle.digits.proofs.text.+write_digits.Goals as goal
 use Rattle.digits.proofs.text.+write_digits.Goals.{then-number-ge10, else-number-ge10}
 
--- the last digit is one more than those of the tenth part
-one_more : (n : ℕ) → 10 ≤ n → n < 2 ^ 64 → length (decimal n) ≡ length (decimal (n / 10)) + 1
-one_more n h small = ap length (decimal_step n h small) ∙ length_push (decimal (n / 10)) (48 + n % 10)
+pub write_digits-last-requires : goal.write_digits-last-requires
+write_digits-last-requires t c =
+    let l = one_more c.args.number c.if-number-ge10.true (omega arith) in
+    search rules
 
 pub bounds-bytes-last : goal.bounds-bytes-last
-bounds-bytes-last g t c =
+bounds-bytes-last t c =
     let some = decimal_nonempty c.args.number (omega arith) in
     elim c.if-number-ge10.branch [
       | then-number-ge10 w ↦ let l = one_more c.args.number w.if-number-ge10.true (omega arith) in search rules
@@ -17,7 +19,7 @@ bounds-bytes-last g t c =
     ]
 
 pub overflow_add-result : goal.overflow_add-result
-overflow_add-result g t c =
+overflow_add-result t c =
     let some = decimal_nonempty c.args.number (omega arith) in
     elim c.if-number-ge10.branch [
       | then-number-ge10 w ↦ let l = one_more c.args.number w.if-number-ge10.true (omega arith) in search rules
@@ -25,7 +27,7 @@ overflow_add-result g t c =
     ]
 
 pub returns : goal.returns
-returns g t c = elim c.if-number-ge10.branch [
+returns t c = elim c.if-number-ge10.branch [
   | then-number-ge10 w ↦
       let l = one_more c.args.number w.if-number-ge10.true (omega arith) in
       let d = decimal_step c.args.number w.if-number-ge10.true (omega arith) in
