@@ -4,8 +4,8 @@ use crate::reading_queue::ReadingQueue;
 
 // Removes all waiting numbers from a queue of any kind, and says how many there were.
 pub fn empty<Q: ReadingQueue>(queue: &mut Q) -> usize
-    ensures count { result ≡ length (waiting queue.old) }
-    ensures after { waiting queue.new ≡ [] }
+    ensures count { result ≡ length (Q.waiting queue.old) }
+    ensures after { Q.waiting queue.new ≡ [] }
 {
     let mut count = 0;
     while let Ok(()) = queue.drop_first() {

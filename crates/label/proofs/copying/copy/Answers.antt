@@ -5,7 +5,7 @@ use Rattle.rules.specs.Calls.{left_by}
 use Rattle.rules.specs.Labels.{code_at, greatest_code, label_limit, printed}
 use Rattle.label.proofs.Places.{code_there}
 use Rattle.label.proofs.copying.copy.Goals as goal
-use Rattle.label.proofs.copying.copy.Goals.{in-Ok, in-default}
+use Rattle.label.proofs.copying.copy.Goals.{in-Ok, in_default}
 
 found : (cs : List ℕ) (place : ℕ) → place < length cs → code_at cs (place + 1) ≡ Ok (get_or cs place 0)
 found cs place h =
@@ -35,7 +35,7 @@ loop-place-preserved g c =
     let from = c.args.from.now in
     elim c.match-code.branch [
       | in-Ok w ↦ ap g.B.LabelLine.codes w.to-is ∙ copied _ _ _ c.loop-place.place _ _ (omega arith) (g.met.A.LabelLine.short from) (g.met.A.LabelLine.bytes from) c.loop-place.invariant w.in-Ok.ensures w.from.ensures w.add.ensures.after
-      | in-default w ↦ absurd (never (g.A.LabelLine.codes from) c.loop-place.place _ (omega arith) w.in-default.ensures)
+      | in_default w ↦ absurd (never (g.A.LabelLine.codes from) c.loop-place.place _ (omega arith) w.in_default.ensures)
     ]
 
 pub returns : goal.returns

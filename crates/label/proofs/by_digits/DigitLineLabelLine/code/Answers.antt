@@ -16,8 +16,8 @@ past : (cs : List ℕ) (i : ℕ) → None ≡ slice_get cs i → length cs ≤ i
 past cs i e =
     ⊎_elim (λ h. let f = nth-getD cs i 0 h in absurd (let z : ◌≡◌ {A = ℕ} 0 1 = cc in omega arith)) (λ h. h) (cases_lt i (length cs))
 
-pub overflow-cast-result : goal.overflow-cast-result
-overflow-cast-result c =
+pub overflow_cast-result : goal.overflow_cast-result
+overflow_cast-result c =
     let f = found _ (c.args.place - 1) _ c.in-Some.ensures in
     let b = c.args.self.now.sound.1 (c.args.place - 1) in
     omega (arith, f.1)

@@ -10,5 +10,5 @@ left ns after e few below =
     let l = ap length e ∙ length-drop 1 ns in
     (omega arith, λ i. rw e (each_drop (λ n. n < number_limit) ns 1 below i))
 
-pub invariant-of-self : goal.invariant-of-self
-invariant-of-self c = let sound = c.args.self.now.sound in (left _ _ c.drop-first.ensures sound.0 sound.1, tt)
+pub invariant_of-self : goal.invariant_of-self
+invariant_of-self c = let sound = c.args.self.now.sound in record { sound = left _ _ c.drop_first.ensures sound.0 sound.1 }

@@ -5,10 +5,10 @@ use Rattle.rules.specs.Stores.{number_limit}
 use Rattle.readings.proofs.digit_queue.DigitQueue.put.Goals as goal
 
 -- fourteen digits and a comma for each of sixteen numbers are the 240 bytes of the line
-pub invariant-of-self : goal.invariant-of-self
-invariant-of-self c =
+pub invariant_of-self : goal.invariant_of-self
+invariant_of-self c =
     let k = push_kept 240 14 queue_limit number_limit _ _ c.args.number _ (omega arith) (omega arith) (omega arith) (omega arith) c.args.self.now.sound.1 c.requires.small c.requires.room c.push.ensures.took c.push.ensures.held in
-    ((k.1, k.2), tt)
+    record { sound = (k.1, k.2) }
 
 pub returns : goal.returns
 returns c =

@@ -4,11 +4,11 @@ use Rattle.rules.specs.Stores.{number_limit}
 use Rattle.readings.specs.Rounds.{length_round, add_round}
 use Rattle.readings.proofs.ring_queue.RingQueue.put.Goals as goal
 
-pub overflow-add-self : goal.overflow-add-self
-overflow-add-self c = let q = c.args.self.now in let l = length_round q.slots q.start q.count in omega arith
+pub overflow_add-self : goal.overflow_add-self
+overflow_add-self c = let q = c.args.self.now in let l = length_round q.slots q.start q.count in omega arith
 
-pub invariant-of-self : goal.invariant-of-self
-invariant-of-self c =
+pub invariant_of-self : goal.invariant_of-self
+invariant_of-self c =
     let q = c.args.self.now in
     let l = length_round q.slots q.start q.count in
     search (rules, each_set (λ n. n < number_limit))
