@@ -28,13 +28,13 @@ fn packed(rt: HostRuntime) {
 #[test]
 fn queue(rt: HostRuntime) {
     let mut queue = DigitQueue::new();
-    assert_eq!(rt; queue.as_bytes(), b"");
+    assert_eq!(rt; queue.as_bytes(), b"".as_slice());
     assert_eq!(rt; queue.add(115), Ok(()));
     assert_eq!(rt; queue.add(0), Ok(()));
     assert_eq!(rt; queue.add(99_999_999_999_999), Ok(()));
-    assert_eq!(rt; queue.as_bytes(), b"115,0,99999999999999,");
+    assert_eq!(rt; queue.as_bytes(), b"115,0,99999999999999,".as_slice());
     assert_eq!(rt; queue.drop_first(), Ok(()));
-    assert_eq!(rt; queue.as_bytes(), b"0,99999999999999,");
+    assert_eq!(rt; queue.as_bytes(), b"0,99999999999999,".as_slice());
 }
 
 #[test]
@@ -43,9 +43,9 @@ fn label(rt: HostRuntime) {
     assert_eq!(rt; label.add(72), Ok(()));
     assert_eq!(rt; label.add(105), Ok(()));
     assert_eq!(rt; label.add(0), Ok(()));
-    assert_eq!(rt; label.as_bytes(), b"72,105,0,");
+    assert_eq!(rt; label.as_bytes(), b"72,105,0,".as_slice());
     label.clear();
-    assert_eq!(rt; label.as_bytes(), b"");
+    assert_eq!(rt; label.as_bytes(), b"".as_slice());
 }
 
 // Six bytes hold two numbers of two and one digit, and then none; freed bytes serve again.
@@ -56,17 +56,17 @@ fn line(rt: HostRuntime) {
     assert!(rt; line.push(115));
     assert!(rt; line.push(7));
     assert!(rt; !line.push(0));
-    assert_eq!(rt; line.as_bytes(), b"115,7,");
+    assert_eq!(rt; line.as_bytes(), b"115,7,".as_slice());
     assert_eq!(rt; line.count(), 2);
     assert_eq!(rt; line.get(0), Some(115));
     assert_eq!(rt; line.get(1), Some(7));
     assert_eq!(rt; line.get(2), None);
     line.drop_first();
     assert!(rt; line.push(123));
-    assert_eq!(rt; line.as_bytes(), b"7,123,");
+    assert_eq!(rt; line.as_bytes(), b"7,123,".as_slice());
     line.clear();
     line.drop_first();
     assert_eq!(rt; line.count(), 0);
     assert!(rt; line.push(12_345));
-    assert_eq!(rt; line.as_bytes(), b"12345,");
+    assert_eq!(rt; line.as_bytes(), b"12345,".as_slice());
 }
