@@ -1,6 +1,6 @@
 -- Reading the lines again: what is left of the text gives what is left to do.
 -- The first reading showed that each line can be read, so cutting off one line takes one line off the program.
-use Rattle.std.proofs.Common.{◌≡◌, ℕ, suc, ◌+◌, ◌≤◌, false, List, [], ◌∷◌, ◌++◌, length, drop, sym, ap, ◌∙◌, subst}
+use Rattle.std.proofs.Common.{◌≡◌, ℕ, suc, ◌≤◌, false, List, [], ◌∷◌, ◌++◌, length, drop, sym, ap, ◌∙◌, subst}
 use Rattle.rules.specs.declared.refusal.Fault.{Fault}
 use Rattle.rules.specs.Tree.{Line}
 use Rattle.rules.specs.Reading.{got, fails, line_read}

@@ -1,5 +1,5 @@
 -- The rows of many like calls.
-use Rattle.std.specs.Prelude.{ℕ, ◌+◌, ◌-◌, ◌%◌, ◌^◌, min, cond, ◌==◌}
+use Rattle.std.specs.Prelude.{ℕ, ◌+◌, ◌-◌, ◌%◌, cond, ◌==◌}
 use Rattle.bench.specs.declared.call.Call.{Call}
 use Rattle.bench.specs.declared.call.Call.TheVariants as c
 use Rattle.devices.specs.declared.exercise.Many.{Many}

@@ -1,5 +1,5 @@
 -- Worked examples: rows of numbers and their bytes.
-use Rattle.std.specs.Prelude.{◌≡◌, ℕ, [], ◌∷◌, length, codes}
+use Rattle.std.specs.Prelude.{◌≡◌, [], ◌∷◌, length, codes}
 use Rattle.digits.specs.Text.{line_of, numbers_in}
 
 pub record Examples : Type 0 where

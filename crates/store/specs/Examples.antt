@@ -1,5 +1,5 @@
 -- Worked examples: numbers in packed decimal.
-use Rattle.std.specs.Prelude.{◌≡◌, ℕ, [], ◌∷◌}
+use Rattle.std.specs.Prelude.{◌≡◌, [], ◌∷◌}
 use Rattle.store.specs.Packing.{cell_bytes, packed, unpacked}
 
 pub record Examples : Type 0 where

@@ -1,6 +1,6 @@
 -- Numbers in packed decimal: packing and unpacking undo each other, pair by pair from the last.
 use Rattle.std.specs.Prelude.{◌≡◌, ℕ, zero, suc, ◌+◌, ◌-◌, ◌*◌, ◌/◌, ◌%◌, ◌^◌, ◌<◌, ◌≤◌, List, [], ◌∷◌, ◌++◌, length, take, drop, slice_index, slice_index_or, slice_set, refl}
-use Rattle.std.proofs.Common.{pow-suc, add-one, arith, sym, ap, ◌∙◌, subst, append_assoc}
+use Rattle.std.proofs.Common.{pow-suc, add-one, arith, sym, ap, ◌∙◌, append_assoc}
 use Rattle.std.proofs.Math.Nat.{pow-le-pow_right}
 use Rattle.std.proofs.lemmas.List.{drop-set, take_more, take_all, length-take-le, length_push, at_drop_more, nil_from_length}
 use Rattle.rules.proofs.Each.{each_push, each_take}

@@ -1,6 +1,6 @@
-use Rattle.std.proofs.Common.{◌≡◌, ℕ, ◌+◌, ◌/◌, ◌%◌, ◌^◌, ◌<◌, ◌≤◌, length, decimal, ap, ◌∙◌, append_assoc, arith, rules}
+use Rattle.std.proofs.Common.{append_assoc, arith, rules}
 use Rattle.std.proofs.lemmas.Fmt.{decimal_digit, decimal_step, decimal_nonempty}
-use Rattle.std.proofs.lemmas.List.{length_push, take_more_set}
+use Rattle.std.proofs.lemmas.List.{take_more_set}
 use Rattle.digits.proofs.Lengths.{one_more}
 use Rattle.digits.proofs.text.+write_digits.Goals as goal
 use Rattle.digits.proofs.text.+write_digits.Goals.{then-number-ge10, else-number-ge10}
