@@ -5,7 +5,8 @@
 usage: python3 tools/respell.py [--list]     at the top of the repository, once
 
 It goes by text. A name counts as the repository's own where a file of specs/ or proofs/ gives it a signature, a field
-or a constructor. It says which names would fall together, and then writes nothing.
+or a constructor, or an import gives it by `as`. It says which names would fall together, and then writes nothing.
+std's `AllByRecursion`, which an import calls `All`, gets its own name: `All` is another word of std.
 """
 import os
 import re
@@ -68,6 +69,9 @@ def own_names():
                     names.add(found.group(2))
             elif within and MEMBER.match(line):
                 names.add(MEMBER.match(line).group(1))
+    for path in texts(".rt"):
+        for items in re.findall(r"^ghost use [^{;\n]*\{([^}]*)\}", read(path), re.M):
+            names |= {item.split(" as ")[1].strip() for item in items.split(",") if " as " in item}
     return names
 
 
@@ -105,6 +109,13 @@ def respell(text, turned, ending):
     return "\n".join(lines)
 
 
+def by_recursion(text):
+    renamed = "{AllByRecursion as All}"
+    if renamed not in text:
+        return text
+    return re.sub(r"(?<![\w'.-])All(?![\w'-])", "AllByRecursion", text.replace(renamed, "{AllByRecursion}"))
+
+
 def main():
     own = own_names()
     turned = {name: snake(name) for name in own if snake(name) != name}
@@ -118,7 +129,7 @@ def main():
         return 1
     for path in texts(".antt", ".rt"):
         old = read(path)
-        new = respell(old, turned, os.path.splitext(path)[1])
+        new = respell(by_recursion(old), turned, os.path.splitext(path)[1])
         if new != old:
             with open(path, "w", encoding="utf-8") as file:
                 file.write(new)

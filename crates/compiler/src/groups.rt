@@ -1,7 +1,7 @@
 ghost use Rattle.std.specs.Prelude.{◌≡◌, ◌-◌, ◌≤◌, true, false, not, replicate, is_some, if◌then◌else◌, Some, None, slice_index_or, slice_set};
 ghost use Rattle.rules.specs.Reading.{between};
-ghost use Rattle.rules.specs.Texts.{closes as closesOf};
-ghost use Rattle.compiler.specs.Onward.{admits as admitsOf};
+ghost use Rattle.rules.specs.Texts.{closes as closes_of};
+ghost use Rattle.compiler.specs.Onward.{admits as admits_of};
 
 use rules::formula::Target;
 
@@ -49,7 +49,7 @@ impl Groups {
     // Whether a line of this group may come next.
     pub(crate) fn admits(&self, letter: u8) -> bool
         requires { (65 ≤ letter) × (letter ≤ 90) }
-        ensures { result ≡ admitsOf self.now.awaited self.now.seen letter }
+        ensures { result ≡ admits_of self.now.awaited self.now.seen letter }
     {
         match self.awaited {
             None => !self.has(letter),
@@ -60,7 +60,7 @@ impl Groups {
     pub(crate) fn note(&mut self, letter: u8, target: Target)
         requires { (65 ≤ letter) × (letter ≤ 90) }
         ensures seen { self.new.seen ≡ slice_set self.old.seen (letter - 65) true }
-        ensures awaited { self.new.awaited ≡ (if closesOf target then None else Some letter) }
+        ensures awaited { self.new.awaited ≡ (if closes_of target then None else Some letter) }
     {
         self.seen[(letter - b'A') as usize] = true;
         self.awaited = match target {

@@ -1,6 +1,6 @@
 -- The accepted texts are those that write a well-formed program.
 use Rattle.std.proofs.Common.{◌≡◌, ℕ, ◌≤◌, Bool, true, false, cond, leb, List, [], length, Some, None, Decides, Option, sym, refl, ap, ◌∙◌, subst, arith}
-use Rattle.std.specs.List.{AllByRecursion as All}
+use Rattle.std.specs.List.{AllByRecursion}
 use Rattle.std.proofs.lemmas.Bool.{le-leb, leb-true}
 use Rattle.rules.specs.declared.refusal.Report.{Report}
 use Rattle.rules.specs.Refusals.{report}
@@ -26,8 +26,8 @@ one_program ks ls v w e = same_program (sym (text_reads ks v) ∙ (ap parsed e �
 
 -- what the reading of a text shows of its program
 pub record Ruled (text : List ℕ) (ks : Program) : Type 0 where
-  pub good : All GoodLine ks
-  pub short : All Short ks
+  pub good : AllByRecursion GoodLine ks
+  pub short : AllByRecursion Short ks
   pub follows : Follows [] ks
   pub writes : text ≡ written_text ks
 
@@ -35,7 +35,7 @@ ruled : (text : List ℕ) (ks : Program) → parsed text ≡ program ks → Rule
 ruled text ks e =
     let s = shows (cut text) [] ks e in
     let q : s.lines ≡ ks = sym s.whole in
-    record { good = subst (All GoodLine) q s.good; short = subst (All Short) q s.short; follows = subst (Follows []) q s.follows; writes = sym (uncut_cut text) ∙ (s.text ∙ ap written_text q) }
+    record { good = subst (AllByRecursion GoodLine) q s.good; short = subst (AllByRecursion Short) q s.short; follows = subst (Follows []) q s.follows; writes = sym (uncut_cut text) ∙ (s.text ∙ ap written_text q) }
 
 pub read_writes : ReadWrites
 read_writes text ks e = (ruled text ks e).writes

@@ -1,6 +1,6 @@
 -- A text cut into lines: what is written comes apart again at its line ends, and the parts make up the text.
 use Rattle.std.proofs.Common.{◌≡◌, ℕ, zero, suc, ◌+◌, ◌%◌, ◌^◌, ◌<◌, Bool, true, false, cond, eqb, List, [], ◌∷◌, ◌++◌, decimal, refl, ap, ◌∙◌, arith}
-use Rattle.std.specs.List.{AllByRecursion as All}
+use Rattle.std.specs.List.{AllByRecursion}
 use Rattle.std.proofs.lemmas.Bool.{eqb-true, ne_eqb}
 use Rattle.std.proofs.lemmas.Fmt.{decimal_by_steps}
 use Rattle.rules.specs.declared.sign.Sign.{Sign}
@@ -40,8 +40,8 @@ uncut_cut (x ∷ xs) = by (eqb x 10) refl (uncut_cut xs)
 abbrev Past : ℕ → Type 0
 Past x = 10 < x
 
-decimal_past : (n : ℕ) → n < 2 ^ 64 → All Past (decimal n)
-decimal_past n h = decimal_by_steps (λ m ds. All Past ds) (λ m q. (omega arith, tt)) (λ m ds q i. All-append Past ds ((48 + m % 10) ∷ []) i (omega arith, tt)) n h
+decimal_past : (n : ℕ) → n < 2 ^ 64 → AllByRecursion Past (decimal n)
+decimal_past n h = decimal_by_steps (λ m ds. AllByRecursion Past ds) (λ m q. (omega arith, tt)) (λ m ds q i. All-append Past ds ((48 + m % 10) ∷ []) i (omega arith, tt)) n h
 
 sign_past : (s : Sign) → Past (sign_byte s)
 sign_past Sum = omega arith
@@ -53,32 +53,32 @@ sign_past Remainder = omega arith
 sign_past Greater = omega arith
 sign_past Smaller = omega arith
 
-atom_past : (x : atoms.Atom) → GoodAtom x → All Past (written_atom x)
+atom_past : (x : atoms.Atom) → GoodAtom x → AllByRecursion Past (written_atom x)
 atom_past (a.Variable v) g = (omega arith, tt)
 atom_past (a.Pointed v) g = (omega arith, (omega arith, tt))
 atom_past (a.Letter l) g = (omega arith, tt)
 atom_past (a.Constant n) g = decimal_past n (omega arith)
 
-operand_past : (x : Operand) (d : ℕ) → GoodOperand d x → All Past (written x)
+operand_past : (x : Operand) (d : ℕ) → GoodOperand d x → AllByRecursion Past (written x)
 operand_past (atom x) d g = atom_past x g
 operand_past (pair l s r) zero g = absurd g
 operand_past (pair l s r) (suc d) g = (omega arith, All-append Past (written l) _ (operand_past l d g.0) (sign_past s, All-append Past (written r) _ (operand_past r d g.1) (omega arith, tt)))
 
-side_past : (z : Side) → GoodSide z → All Past (written_side z)
+side_past : (z : Side) → GoodSide z → AllByRecursion Past (written_side z)
 side_past reading g = (omega arith, tt)
 side_past (single x) g = atom_past x g
 side_past (both l s r) g = All-append Past (written l) _ (operand_past l depth_limit g.0) (sign_past s, operand_past r depth_limit g.1)
 
-target_past : (u : targets.Target) → GoodTarget u → All Past (written_target u)
+target_past : (u : targets.Target) → GoodTarget u → AllByRecursion Past (written_target u)
 target_past (t.Variable v) g = (omega arith, tt)
 target_past (t.Pointed v) g = (omega arith, (omega arith, tt))
 target_past t.Label g = (omega arith, tt)
 target_past t.Place g = (omega arith, tt)
 
-line_past : (k : Line) → GoodLine k → All Past (written_line k)
+line_past : (k : Line) → GoodLine k → AllByRecursion Past (written_line k)
 line_past k g = (omega (arith, g.group.0), (omega arith, All-append Past (written_side k.side) _ (side_past k.side g.side) (omega arith, target_past k.target g.target)))
 
-cut_past : (p xs : List ℕ) → All Past p → cut (p ++ (10 ∷ xs)) ≡ line p (cut xs)
+cut_past : (p xs : List ℕ) → AllByRecursion Past p → cut (p ++ (10 ∷ xs)) ≡ line p (cut xs)
 cut_past [] xs a = refl
 cut_past (x ∷ p) xs a = rw (ne_eqb x 10 (λ q. omega (arith, a.0)), cut_past p xs a.1)
 

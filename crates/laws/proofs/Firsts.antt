@@ -5,7 +5,7 @@ use Rattle.std.proofs.Common.{◌≡◌, ℕ, suc, ◌+◌, ◌<◌, ◌≤◌, 
 use Rattle.std.proofs.ByRecursion.{All-append, All-weaker}
 use Rattle.std.proofs.lemmas.List.{length-append}
 use Rattle.std.proofs.lemmas.Bool.{leb-true, leb-false}
-use Rattle.std.specs.List.{AllByRecursion as All}
+use Rattle.std.specs.List.{AllByRecursion}
 use Rattle.rules.specs.declared.formula.Atom.{Atom}
 use Rattle.rules.specs.declared.formula.Atom.TheVariants.{Variable, Pointed, Letter, Constant}
 use Rattle.rules.specs.declared.refusal.Report.{Report}
@@ -24,7 +24,7 @@ pub letters_first : LettersFirst
 letters_first ks [] r e = let z : ◌≡◌ {A = ℕ} 0 1 = cc in absurd (omega arith)
 letters_first ks (m ∷ ms) r e = by (letters_first ks ms r) (grouped ks m.what) refl e
   where
-    by : (first_loose ks ms ≡ Some r → FirstIn ms (All (λ (n : Mention). grouped ks n.what ≡ true)) (λ before n. (grouped ks n.what ≡ false) × (r ≡ report 7 n.line n.place))) → (b : Bool) → grouped ks m.what ≡ b → cond b (first_loose ks ms) (Some (report 7 m.line m.place)) ≡ Some r → FirstIn (m ∷ ms) (All (λ (n : Mention). grouped ks n.what ≡ true)) (λ before n. (grouped ks n.what ≡ false) × (r ≡ report 7 n.line n.place))
+    by : (first_loose ks ms ≡ Some r → FirstIn ms (AllByRecursion (λ (n : Mention). grouped ks n.what ≡ true)) (λ before n. (grouped ks n.what ≡ false) × (r ≡ report 7 n.line n.place))) → (b : Bool) → grouped ks m.what ≡ b → cond b (first_loose ks ms) (Some (report 7 m.line m.place)) ≡ Some r → FirstIn (m ∷ ms) (AllByRecursion (λ (n : Mention). grouped ks n.what ≡ true)) (λ before n. (grouped ks n.what ≡ false) × (r ≡ report 7 n.line n.place))
     by more true g e = let f = more e in record { before = m ∷ f.before; it = f.it; after = f.after; is = ap (λ (o : List Mention). m ∷ o) f.is; holds = (g, f.holds); breaks = f.breaks }
     by more false g e = record { before = []; it = m; after = ms; is = refl; holds = tt; breaks = (g, sym (some_same e)) }
 
@@ -63,16 +63,16 @@ instructions_first ks r e =
     record { before = f.before; it = f.it; after = f.after; is = f.is; holds = omega (arith, f.holds); breaks = (omega (arith, f.breaks.0), f.breaks.1 ∙ ap (λ (n : ℕ). report 9 n 0) (omega arith)) }
 
 -- where the letters and constants of an operand stand, between the bytes before it and those after it
-atom_stands : (x : Atom) (l p : ℕ) (pre post : List ℕ) → p ≡ suc (length pre) → All (Stands l (pre ++ (written_atom x ++ post))) (atom_mentions l p x)
+atom_stands : (x : Atom) (l p : ℕ) (pre post : List ℕ) → p ≡ suc (length pre) → AllByRecursion (Stands l (pre ++ (written_atom x ++ post))) (atom_mentions l p x)
 atom_stands (Variable v) l p pre post e = tt
 atom_stands (Pointed v) l p pre post e = tt
 atom_stands (Letter g) l p pre post e = (record { line = refl; front = pre; back = post; is = refl; place = e }, tt)
 atom_stands (Constant n) l p pre post e = (record { line = refl; front = pre; back = post; is = refl; place = e }, tt)
 
-moved : (l : ℕ) (ms : List Mention) (xs ys : List ℕ) → xs ≡ ys → All (Stands l xs) ms → All (Stands l ys) ms
-moved l ms xs ys e a = subst (λ (o : List ℕ). All (Stands l o) ms) e a
+moved : (l : ℕ) (ms : List Mention) (xs ys : List ℕ) → xs ≡ ys → AllByRecursion (Stands l xs) ms → AllByRecursion (Stands l ys) ms
+moved l ms xs ys e a = subst (λ (o : List ℕ). AllByRecursion (Stands l o) ms) e a
 
-operand_stands : (x : Operand) (l p : ℕ) (pre post : List ℕ) → p ≡ suc (length pre) → All (Stands l (pre ++ (written x ++ post))) (mentions l p x)
+operand_stands : (x : Operand) (l p : ℕ) (pre post : List ℕ) → p ≡ suc (length pre) → AllByRecursion (Stands l (pre ++ (written x ++ post))) (mentions l p x)
 operand_stands (atom x) l p pre post e = atom_stands x l p pre post e
 operand_stands (pair x s y) l p pre post e =
     let front : List ℕ = pre ++ (40 ∷ (written x ++ (sign_byte s ∷ []))) in
@@ -82,7 +82,7 @@ operand_stands (pair x s y) l p pre post e =
     (moved l (mentions l (suc p) x) _ _ (simp append_assoc) (operand_stands x l (suc p) (pre ++ (40 ∷ [])) (sign_byte s ∷ (written y ++ (41 ∷ post))) (omega arith)))
     (moved l (mentions l (suc (suc p) + length (written x)) y) _ _ (simp append_assoc) (operand_stands y l (suc (suc p) + length (written x)) front (41 ∷ post) (omega arith)))
 
-side_stands : (z : Side) (l g : ℕ) (post : List ℕ) → All (Stands l (g ∷ (44 ∷ (written_side z ++ post)))) (side_mentions l z)
+side_stands : (z : Side) (l g : ℕ) (post : List ℕ) → AllByRecursion (Stands l (g ∷ (44 ∷ (written_side z ++ post)))) (side_mentions l z)
 side_stands reading l g post = tt
 side_stands (single x) l g post = atom_stands x l 3 (g ∷ (44 ∷ [])) post refl
 side_stands (both x s y) l g post =
@@ -92,7 +92,7 @@ side_stands (both x s y) l g post =
     (moved l (mentions l 3 x) _ _ (simp append_assoc) (operand_stands x l 3 (g ∷ (44 ∷ [])) (sign_byte s ∷ (written y ++ post)) refl))
     (moved l (mentions l (4 + length (written x)) y) _ _ (simp append_assoc) (operand_stands y l (4 + length (written x)) front post (omega arith)))
 
-lines_written : (ks above below : Program) (l : ℕ) → ks ≡ above ++ below → l ≡ suc (length above) → All (Written ks) (program_mentions l below)
+lines_written : (ks above below : Program) (l : ℕ) → ks ≡ above ++ below → l ≡ suc (length above) → AllByRecursion (Written ks) (program_mentions l below)
 lines_written ks above [] l e f = tt
 lines_written ks above (k ∷ below) l e f =
     let n : length (above ++ (k ∷ [])) ≡ length above + 1 = simp length-append (omega arith) in

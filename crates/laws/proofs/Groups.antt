@@ -1,6 +1,6 @@
 -- The rule of groups, line by line, holds of just the lines that are groups.
 use Rattle.std.proofs.Common.{◌≡◌, ℕ, Bool, true, false, not, eqb, List, [], ◌∷◌, ◌++◌, Some, None, sym, refl, ap, ◌∙◌, subst, inl, inr, arith}
-use Rattle.std.specs.List.{AllByRecursion as All}
+use Rattle.std.specs.List.{AllByRecursion}
 use Rattle.std.proofs.lemmas.Bool.{false≢true, both_ways, not-true, eqb-true, eq-eqb, ne_eqb, or_from, or_parts}
 use Rattle.rules.specs.declared.formula.Target.{Target}
 use Rattle.rules.specs.declared.formula.Target.TheVariants.{Variable, Pointed, Label, Place}
@@ -33,12 +33,12 @@ has_not k above x h n = or_from (eqb k.group x) (has above x) (ne_eqb k.group x 
 
 -- From groups to the rule. A group's first line may come since its letter is new, the others since none before the last closes it.
 -- After the last line no group is open, and only this group's letter is no longer new.
-formulas_follow : (g : ℕ) (fs : List Formula) (z : Side) (rest : Program) (above : List Line) → allowed above g ≡ true → All Still fs → ((v : List Line) → awaited v ≡ None → ((x : ℕ) → has above x ≡ false → (g ≡ x → ⊥) → has v x ≡ false) → Follows v rest) → Follows above (formula_lines g fs z ++ rest)
+formulas_follow : (g : ℕ) (fs : List Formula) (z : Side) (rest : Program) (above : List Line) → allowed above g ≡ true → AllByRecursion Still fs → ((v : List Line) → awaited v ≡ None → ((x : ℕ) → has above x ≡ false → (g ≡ x → ⊥) → has v x ≡ false) → Follows v rest) → Follows above (formula_lines g fs z ++ rest)
 formulas_follow g [] z rest above a i more = (a, more (last_of g z ∷ above) refl (λ x h n. has_not (last_of g z) above x h n))
 formulas_follow g (f ∷ fs) z rest above a i more = (a, formulas_follow g fs z rest (line_of g f ∷ above) (may_stay (line_of g f) above i.0) i.1 (λ v e w. more v e (λ x h n. w x (has_not (line_of g f) above x h n) n)))
 
 -- where the first line of all may come, and the other letters are new
-groups_follow : (g : Group) (gs : List Group) (above : List Line) → allowed above g.letter ≡ true → ((x : ℕ) → In x (letters gs) → has above x ≡ false) → Distinct (letters (g ∷ gs)) → All Inner (g ∷ gs) → Follows above (group_lines (g ∷ gs))
+groups_follow : (g : Group) (gs : List Group) (above : List Line) → allowed above g.letter ≡ true → ((x : ℕ) → In x (letters gs) → has above x ≡ false) → Distinct (letters (g ∷ gs)) → AllByRecursion Inner (g ∷ gs) → Follows above (group_lines (g ∷ gs))
 groups_follow g [] above a f d i = formulas_follow g.letter g.formulas g.last [] above a i.0 (λ v e w. e)
 groups_follow g (h ∷ gs) above a f d i =
     formulas_follow g.letter g.formulas g.last (group_lines (h ∷ gs)) above a i.0 (λ v e w.
@@ -48,7 +48,7 @@ groups_follow g (h ∷ gs) above a f d i =
 pub groups_ruled : (ks : Program) → WellFormed ks → Follows [] ks
 groups_ruled ks w = subst (Follows []) (sym w.lines) (start w.groups w.more w.first_a w.distinct w.inner)
   where
-    start : (gs : List Group) (more : List ℕ) → letters gs ≡ 65 ∷ more → Distinct (letters gs) → All Inner gs → Follows [] (group_lines gs)
+    start : (gs : List Group) (more : List ℕ) → letters gs ≡ 65 ∷ more → Distinct (letters gs) → AllByRecursion Inner gs → Follows [] (group_lines gs)
     start [] more e d i = let z : ◌≡◌ {A = ℕ} 0 1 = cc in absurd (omega arith)
     start (g ∷ gs) more e d i = let q : g.letter ≡ 65 = cc in groups_follow g gs [] (eq-eqb g.letter 65 q) (λ x n. refl) d i
 
@@ -58,9 +58,9 @@ pub record Begun (above : List Line) (k : Line) (ks : Program) : Type 0 where
   pub last : Side
   pub groups : List Group
   pub lines : k ∷ ks ≡ formula_lines k.group formulas last ++ group_lines groups
-  pub inside : All Still formulas
+  pub inside : AllByRecursion Still formulas
   pub distinct : Distinct (letters groups)
-  pub inner : All Inner groups
+  pub inner : AllByRecursion Inner groups
   pub fresh : (x : ℕ) → In x (letters groups) → has (k ∷ above) x ≡ false
 
 -- the group that k begins
@@ -114,7 +114,7 @@ pub record InGroups (ks : Program) : Type 0 where
   pub more : List ℕ
   pub first_a : letters groups ≡ 65 ∷ more
   pub distinct : Distinct (letters groups)
-  pub inner : All Inner groups
+  pub inner : AllByRecursion Inner groups
 
 pub ruled_groups : (ks : Program) → Follows [] ks → InGroups ks
 ruled_groups [] f = let z : ◌≡◌ {A = ℕ} 0 1 = cc in absurd (omega arith)

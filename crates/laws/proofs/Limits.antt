@@ -1,6 +1,6 @@
 -- What is judged after all lines, said of the whole program: its letters, its constants, its instructions.
 use Rattle.std.proofs.Common.{◌≡◌, ℕ, suc, ◌+◌, ◌≤◌, Bool, true, false, cond, ◌||◌, eqb, ltb, leb, List, [], ◌∷◌, ◌++◌, length, Some, None, Decides, sym, refl, arith}
-use Rattle.std.specs.List.{AllByRecursion as All}
+use Rattle.std.specs.List.{AllByRecursion}
 use Rattle.std.proofs.lemmas.List.{length-append}
 use Rattle.std.proofs.lemmas.Bool.{false≢true, leb-true, le-leb, cond_both}
 use Rattle.std.proofs.lemmas.Bool.Decides.{Decides-at, Decides-like, Decides-or, Decides-eqb}
@@ -36,15 +36,15 @@ module _ (ks : Program) (gs : List ℕ) (told : (x : ℕ) → Decides (has ks x)
   grouped-told (Letter g) = told g
   grouped-told (Constant n) = (λ e. tt, λ n. refl)
 
-  pub loose_none : (ms : List Mention) → All (λ (m : Mention). LetterIn gs m.what) ms → first_loose ks ms ≡ None
+  pub loose_none : (ms : List Mention) → AllByRecursion (λ (m : Mention). LetterIn gs m.what) ms → first_loose ks ms ≡ None
   loose_none [] a = refl
   loose_none (m ∷ ms) a = rw ((grouped-told m.what).1 a.0) (loose_none ms a.1)
 
-  pub none-loose : (ms : List Mention) → first_loose ks ms ≡ None → All (λ (m : Mention). LetterIn gs m.what) ms
+  pub none-loose : (ms : List Mention) → first_loose ks ms ≡ None → AllByRecursion (λ (m : Mention). LetterIn gs m.what) ms
   none-loose [] e = tt
   none-loose (m ∷ ms) e = by (grouped ks m.what) refl e (λ f. none-loose ms f)
     where
-      by : (b : Bool) → grouped ks m.what ≡ b → cond b (first_loose ks ms) (Some (report 7 m.line m.place)) ≡ None → (first_loose ks ms ≡ None → All (λ (n : Mention). LetterIn gs n.what) ms) → All (λ (n : Mention). LetterIn gs n.what) (m ∷ ms)
+      by : (b : Bool) → grouped ks m.what ≡ b → cond b (first_loose ks ms) (Some (report 7 m.line m.place)) ≡ None → (first_loose ks ms ≡ None → AllByRecursion (λ (n : Mention). LetterIn gs n.what) ms) → AllByRecursion (λ (n : Mention). LetterIn gs n.what) (m ∷ ms)
       by true h f more = ((grouped-told m.what).0 h, more f)
       by false h f more = let z : ◌≡◌ {A = ℕ} 0 1 = cc in absurd (omega arith)
 

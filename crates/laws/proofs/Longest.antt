@@ -2,7 +2,7 @@
 -- Inside a group the letter stays the same, so each group has at most one head, and beside the heads the code is the instructions.
 -- The letters of the groups are distinct and from A to Z, so there are at most 26; the constants and the instructions have their limits.
 use Rattle.std.proofs.Common.{◌≡◌, ℕ, zero, suc, ◌+◌, ◌<◌, ◌≤◌, Bool, true, false, cond, eqb, List, [], ◌∷◌, ◌++◌, length, Some, None, Option, sym, refl, ap, ◌∙◌, subst, inl, inr, arith}
-use Rattle.std.specs.List.{AllByRecursion as All}
+use Rattle.std.specs.List.{AllByRecursion}
 use Rattle.std.proofs.lemmas.Bool.{false≢true, eqb-true, eqb-false, eq-eqb, or_cases}
 use Rattle.rules.specs.declared.formula.Target.TheVariants.{Place}
 use Rattle.rules.specs.Tree.{Side, Program}
@@ -54,11 +54,11 @@ distinct_few (suc n) low xs d h =
     omega (arith, without_length (low + n) xs, distinct_few n low (without (low + n) xs) (without_distinct (low + n) xs d) (λ x m. let k = without_in (low + n) xs d x m in let r = h x k.0 in (r.0, omega arith)))
 
 -- the letter of a line is from A to Z, and every group has a line
-good_has : (ks : Program) (x : ℕ) → All GoodLine ks → has ks x ≡ true → IsLetter x
+good_has : (ks : Program) (x : ℕ) → AllByRecursion GoodLine ks → has ks x ≡ true → IsLetter x
 good_has [] x a h = absurd (false≢true h)
 good_has (k ∷ ks) x a h = elim (or_cases (eqb k.group x) (has ks x) h) [ inl e ↦ subst IsLetter (eqb-true k.group x e) a.0.group | inr e ↦ good_has ks x a.1 e ]
 
-letters_few : (gs : List Group) → Distinct (letters gs) → All GoodLine (group_lines gs) → length (letters gs) ≤ 26
+letters_few : (gs : List Group) → Distinct (letters gs) → AllByRecursion GoodLine (group_lines gs) → length (letters gs) ≤ 26
 letters_few gs d a = distinct_few 26 65 (letters gs) d (λ x n. let g = good_has (group_lines gs) x a ((letters_told gs x).1 n) in (g.0, omega arith))
 
 -- a head where the group begins, and none inside
@@ -77,7 +77,7 @@ groups_words cs above (g ∷ gs) = by (same_group above g.letter) (formulas_word
 well_formed_words : (ks : Program) → WellFormed ks → length (tape_of (constants_of ks) ks) ≤ 491
 well_formed_words ks w =
     let c : length (code_words (constants_of ks) None ks) ≤ length (letters w.groups) + instructions ks = subst (λ (o : Program). length (code_words (constants_of ks) None o) ≤ length (letters w.groups) + instructions o) (sym w.lines) (groups_words (constants_of ks) None w.groups) in
-    omega (arith, tape_length (constants_of ks) ks, letters_few w.groups w.distinct (subst (All GoodLine) w.lines w.good))
+    omega (arith, tape_length (constants_of ks) ks, letters_few w.groups w.distinct (subst (AllByRecursion GoodLine) w.lines w.good))
 
 pub longest_tape : LongestTape
 longest_tape text ws e = let a = accepted_written text ws e in omega (arith, ap length a.3, well_formed_words a.0 a.1)

@@ -1,7 +1,7 @@
 -- The lines of a text, read one after another: which texts are read, and as what.
 use Rattle.std.proofs.Common.{◌≡◌, ℕ, suc, ◌≤◌, Bool, true, false, cond, List, [], ◌∷◌, ◌++◌, reverse, length, Some, None, Option, sym, refl, ap, ◌∙◌, subst, append_assoc, append-nil, arith}
 use mathlib.Core.List.{reverse-cons}
-use Rattle.std.specs.List.{AllByRecursion as All}
+use Rattle.std.specs.List.{AllByRecursion}
 use Rattle.std.proofs.lemmas.Bool.{le-leb}
 use Rattle.rules.specs.Refusals.{report}
 use Rattle.rules.specs.Tree.{Line, Program}
@@ -26,8 +26,8 @@ same_program e = cc
 pub record Shows (t : Text) (above : List Line) (ks : Program) : Type 0 where
   pub lines : Program
   pub whole : ks ≡ reverse above ++ lines
-  pub good : All GoodLine lines
-  pub short : All Short lines
+  pub good : AllByRecursion GoodLine lines
+  pub short : AllByRecursion Short lines
   pub follows : Follows above lines
   pub text : uncut t ≡ written_text lines
 
@@ -44,7 +44,7 @@ no_line above e = rw e
 
 -- Each line is cut off whole and read as itself, and the rule admits it.
 -- So the lines are gathered one by one, and at the end no group is open.
-pub parses : (ks above : List Line) → All GoodLine ks → All Short ks → Follows above ks → parsed_from (cut (written_text ks)) above ≡ program (reverse above ++ ks)
+pub parses : (ks above : List Line) → AllByRecursion GoodLine ks → AllByRecursion Short ks → Follows above ks → parsed_from (cut (written_text ks)) above ≡ program (reverse above ++ ks)
 parses [] above g h f = no_line above f ∙ ap program (sym (append-nil (reverse above)))
 parses (k ∷ ks) above g h f =
     ap (λ (t : Text). parsed_from t above) (cut_line k (written_text ks) g.0)

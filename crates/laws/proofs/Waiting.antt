@@ -1,6 +1,6 @@
 -- How many results of a line wait at once, and how many operations it has, by its length.
 use Rattle.std.proofs.Common.{◌≡◌, ℕ, zero, suc, ◌+◌, ◌*◌, ◌<◌, ◌≤◌, length, arith}
-use Rattle.std.specs.List.{AllByRecursion as All}
+use Rattle.std.specs.List.{AllByRecursion}
 use Rattle.std.proofs.lemmas.List.{length-append}
 use Rattle.std.proofs.lemmas.Fmt.{decimal_nonempty}
 use Rattle.rules.specs.declared.sign.Sign.{Sign}
@@ -40,7 +40,7 @@ source_fits (pair l s r) w h = h
 
 -- A result waits only while what stands to its right is worked, and it was written to the left with at least `(a+b)` and a sign.
 -- So sixteen results would take ninety-six bytes, and a line has at most eighty.
-operand_fits : (x : Operand) (d m w : ℕ) → GoodOperand d x → 6 * w ≤ m → m + length (written x) ≤ 80 → All FitsOperation (operations x w)
+operand_fits : (x : Operand) (d m w : ℕ) → GoodOperand d x → 6 * w ≤ m → m + length (written x) ≤ 80 → AllByRecursion FitsOperation (operations x w)
 operand_fits (atom x) d m w g h n = tt
 operand_fits (pair x s y) zero m w g h n = absurd g
 operand_fits (pair x s y) (suc d) m w g h n =
@@ -76,7 +76,7 @@ both_length l r s = simp length-append (omega arith)
 pub temporaries_fit : TemporariesFit
 temporaries_fit k g h = by k.side g.side (side_length k h)
   where
-    by : (z : Side) → GoodSide z → length (written_side z) ≤ 76 → All FitsOperation (side_operations z)
+    by : (z : Side) → GoodSide z → length (written_side z) ≤ 76 → AllByRecursion FitsOperation (side_operations z)
     by reading q n = tt
     by (single x) q n = tt
     by (both l s r) q n = operand_fits (pair l s r) 17 0 0 q (omega arith) (omega (arith, both_length l r s))

@@ -1,6 +1,6 @@
 -- What the refusals say that are judged after all lines: each names the first that breaks its rule, and where it is written.
 use Rattle.std.specs.Prelude.{◌≡◌, ℕ, suc, ◌<◌, ◌≤◌, true, false, List, [], ◌∷◌, ◌++◌, length, Some}
-use Rattle.std.specs.List.{AllByRecursion as All}
+use Rattle.std.specs.List.{AllByRecursion}
 use Rattle.rules.specs.declared.refusal.Report.{Report}
 use Rattle.rules.specs.Refusals.{report}
 use Rattle.rules.specs.Tree.{Line, Program}
@@ -25,7 +25,7 @@ pub record Written (ks : Program) (m : Mention) : Type 0 where
 
 -- each letter and constant is mentioned with the line and the place where it is written
 abbrev pub MentionsWritten : Type 0
-MentionsWritten = (ks : Program) → All (Written ks) (program_mentions 1 ks)
+MentionsWritten = (ks : Program) → AllByRecursion (Written ks) (program_mentions 1 ks)
 
 -- one of a list, such that something holds of those before it and no longer with it
 pub record FirstIn {X : Type 0} (xs : List X) (Holds : List X → Type 0) (Breaks : List X → X → Type 0) : Type 0 where
@@ -38,7 +38,7 @@ pub record FirstIn {X : Type 0} (xs : List X) (Holds : List X → Type 0) (Break
 
 -- 7 names a letter without group, and all letters before it have one
 abbrev pub LettersFirst : Type 0
-LettersFirst = (ks : Program) (ms : List Mention) (r : Report) → first_loose ks ms ≡ Some r → FirstIn ms (All (λ (m : Mention). grouped ks m.what ≡ true)) (λ before m. (grouped ks m.what ≡ false) × (r ≡ report 7 m.line m.place))
+LettersFirst = (ks : Program) (ms : List Mention) (r : Report) → first_loose ks ms ≡ Some r → FirstIn ms (AllByRecursion (λ (m : Mention). grouped ks m.what ≡ true)) (λ before m. (grouped ks m.what ≡ false) × (r ≡ report 7 m.line m.place))
 
 -- 8 names a constant with which there are too many different ones, and before it there were not
 abbrev pub ConstantsFirst : Type 0

@@ -1,6 +1,6 @@
 -- The cells for results that wait, 500 to 515, are enough for every line.
 use Rattle.std.specs.Prelude.{◌≤◌, length}
-use Rattle.std.specs.List.{AllByRecursion as All}
+use Rattle.std.specs.List.{AllByRecursion}
 use Rattle.rules.specs.declared.operation.Source.{Source}
 use Rattle.rules.specs.declared.operation.Source.TheVariants.{Named, Temporary}
 use Rattle.rules.specs.declared.operation.Operation.{Operation}
@@ -22,7 +22,7 @@ pub record FitsOperation (o : Operation) : Type 0 where
 
 -- no operation of a line asks for another temporary, as an operand or for its result
 abbrev pub TemporariesFit : Type 0
-TemporariesFit = (k : Line) → GoodLine k → length (written_line k) ≤ line_limit → All FitsOperation (side_operations k.side)
+TemporariesFit = (k : Line) → GoodLine k → length (written_line k) ≤ line_limit → AllByRecursion FitsOperation (side_operations k.side)
 
 -- and a line has at most 19 operations
 abbrev pub OperationsFew : Type 0

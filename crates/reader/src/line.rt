@@ -1,7 +1,7 @@
 ghost use Rattle.std.specs.Prelude.{◌≡◌, ◌+◌, ◌*◌, ◌≤◌, length};
 ghost use Rattle.rules.specs.Reading.{opening_at, side_at, target_at, line_at, line_read};
 ghost use Rattle.reader.specs.Told.{Reads, Told, First};
-ghost use Rattle.reader.specs.Sides.{alone as aloneOf, SideRead, PartsRead};
+ghost use Rattle.reader.specs.Sides.{alone as alone_of, SideRead, PartsRead};
 
 use crate::bytes::{byte, is_letter, start, variable};
 use crate::failure::{Failure, Misread};
@@ -32,7 +32,7 @@ fn opening(line: &[u8]) -> Result<(u8, &[u8]), Failure>
 
 // The atom that stands alone before a comma.
 fn alone(left: Source, after: &[u8]) -> Option<Atom>
-    ensures { result ≡ aloneOf left after.now }
+    ensures { result ≡ alone_of left after.now }
 {
     match left {
         Source::Named(atom) => match after {

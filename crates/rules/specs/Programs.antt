@@ -1,6 +1,6 @@
 -- Which programs are well formed, in the words of whoever types them.
 use Rattle.std.specs.Prelude.{◌≡◌, ℕ, zero, suc, ◌^◌, ◌<◌, ◌≤◌, false, ◌⊎◌, List, [], ◌∷◌, ◌++◌, length}
-use Rattle.std.specs.List.{AllByRecursion as All}
+use Rattle.std.specs.List.{AllByRecursion}
 use Rattle.rules.specs.declared.formula.Atom as atoms
 use Rattle.rules.specs.declared.formula.Atom.TheVariants as a
 use Rattle.rules.specs.declared.formula.Target as targets
@@ -82,7 +82,7 @@ Distinct (x ∷ xs) = (In x xs → ⊥) × Distinct xs
 
 -- no formula before a group's last has target `#`
 abbrev pub Inner : Group → Type 0
-Inner g = All (λ (f : Formula). closes f.target ≡ false) g.formulas
+Inner g = AllByRecursion (λ (f : Formula). closes f.target ≡ false) g.formulas
 
 -- a letter that is mentioned is one of these
 abbrev pub LetterIn : List ℕ → atoms.Atom → Type 0
@@ -97,10 +97,10 @@ pub record WellFormed (ks : Program) : Type 0 where
   pub more : List ℕ
   pub first_a : letters groups ≡ 65 ∷ more
   pub distinct : Distinct (letters groups)
-  pub inner : All Inner groups
-  pub good : All GoodLine ks
-  pub short : All (λ (k : Line). length (written_line k) ≤ line_limit) ks
-  pub grouped : All (λ (m : Mention). LetterIn (letters groups) m.what) (program_mentions 1 ks)
+  pub inner : AllByRecursion Inner groups
+  pub good : AllByRecursion GoodLine ks
+  pub short : AllByRecursion (λ (k : Line). length (written_line k) ≤ line_limit) ks
+  pub grouped : AllByRecursion (λ (m : Mention). LetterIn (letters groups) m.what) (program_mentions 1 ks)
   pub constants : length (constants_of ks) ≤ constant_limit
   pub few : instructions ks ≤ instruction_limit
   pub brief : length (written_text ks) ≤ text_limit
