@@ -23,6 +23,7 @@ pub(crate) fn digit_count(number: u64) -> usize
 // Writes the digits from `start` on, and answers where they end.
 fn write_digits(bytes: &mut [u8], start: usize, number: u64) -> usize
     requires { start + length (decimal number) ≤ length bytes.old }
+    ensures whole { length bytes.new ≡ length bytes.old }
     ensures end { result ≡ start + length (decimal number) }
     ensures text { take result bytes.new ≡ take start bytes.old ++ decimal number }
 {
