@@ -2,7 +2,7 @@
 use Rattle.std.specs.Prelude.{ℕ, ◌+◌, Bool, true, false, List, [], ◌∷◌, length, Some, None, Ok, Err, Option, Result, ◌==◌}
 use Rattle.rules.specs.Calls.{answer_of, left_by}
 use Rattle.rules.specs.Stores.{loaded, stored}
-use Rattle.rules.specs.Queues.{first_of, dropped, added}
+use Rattle.rules.specs.Queues.{first_waiting, dropped, added}
 use Rattle.rules.specs.Labels.{code_at, printed}
 use Rattle.bench.specs.declared.call.Call.{Call}
 use Rattle.bench.specs.declared.call.Call.TheVariants as c
@@ -33,7 +33,7 @@ first None = a.Nothing
 abbrev pub answered : Meaning → Call → answers.Answer
 answered m (c.Load at) = number (loaded m.cells at)
 answered m (c.Store at n) = done (answer_of (stored m.cells at n))
-answered m c.First = first (first_of m.waiting)
+answered m c.First = first (first_waiting m.waiting)
 answered m c.Drop = done (answer_of (dropped m.waiting))
 answered m (c.Add n) = done (answer_of (added m.waiting n))
 answered m c.Count = a.Number (length m.codes)

@@ -32,9 +32,9 @@ impl ByteLine {
 impl LabelLine for ByteLine {
     ghost codes = { byte_codes };
 
-    ghost short = { first_of (Prim.search rules, Prim.grind (arith, Self.row.coded.inj)) };
+    ghost short = { Prim.search rules };
 
-    ghost bytes = { λ s. each_take (λ n. n ≤ greatest_code) s.bytes s.count (omega arith) s.sound.2 };
+    ghost bytes = { λ s. each_take (λ n. n ≤ greatest_code) s.bytes s.count (Prim.omega arith) s.sound.2 };
 
     fn count(&self) -> usize {
         self.count

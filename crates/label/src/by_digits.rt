@@ -40,9 +40,9 @@ impl DigitLine {
 impl LabelLine for DigitLine {
     ghost codes = { digit_codes };
 
-    ghost short = { first_of (Prim.search rules, Prim.grind (arith, Self.row.coded.inj)) };
+    ghost short = { Prim.search rules };
 
-    ghost bytes = { first_of (Prim.search rules, Prim.grind (arith, Self.row.coded.inj)) };
+    ghost bytes = { Prim.search rules };
 
     fn count(&self) -> usize {
         self.line.count()

@@ -1,7 +1,7 @@
 -- Worked examples: what loading, storing, adding, dropping and printing come to.
 use Rattle.std.specs.Prelude.{◌≡◌, ℕ, List, [], ◌∷◌, ◌++◌, replicate, Some, None, Ok, Err}
 use Rattle.rules.specs.Stores.{loaded, stored}
-use Rattle.rules.specs.Queues.{first_of, dropped, added}
+use Rattle.rules.specs.Queues.{first_waiting, dropped, added}
 use Rattle.rules.specs.Labels.{code_at, printed}
 
 pub record Devices : Type 0 where
@@ -12,8 +12,8 @@ pub record Devices : Type 0 where
   pub nowhere : (cs : List ℕ) → stored cs 1000 0 ≡ Err 15
   pub broad : (cs : List ℕ) → stored cs 0 100000000000000 ≡ Err 15
   -- a queue: first in, first out; a number too large comes before a full queue
-  pub front : first_of (5 ∷ (6 ∷ [])) ≡ Some 5
-  pub none : first_of [] ≡ None
+  pub front : first_waiting (5 ∷ (6 ∷ [])) ≡ Some 5
+  pub none : first_waiting [] ≡ None
   pub next : dropped (5 ∷ (6 ∷ [])) ≡ Ok (6 ∷ [])
   pub empty : dropped [] ≡ Err 27
   pub sixteenth : added (replicate 15 1) 2 ≡ Ok (replicate 15 1 ++ (2 ∷ []))

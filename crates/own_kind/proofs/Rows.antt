@@ -2,10 +2,10 @@
 use Rattle.std.proofs.Common.{◌≡◌, ℕ, zero, suc, ◌-◌, ◌<◌, ◌≤◌, List, [], ◌∷◌, ◌++◌, length, get_or, take, drop, Some, Ok, sym, refl, ap, arith}
 use Rattle.std.proofs.lemmas.List.{take-append-le}
 use Rattle.rules.proofs.Each.{each_append, each_drop, each_take}
-use Rattle.rules.specs.Queues.{first_of, dropped}
+use Rattle.rules.specs.Queues.{first_waiting, dropped}
 use Rattle.rules.specs.Stores.{number_limit}
 
-pub first_front : (row : List ℕ) (count : ℕ) → 0 < count → count ≤ length row → first_of (take count row) ≡ Some (get_or row 0 0)
+pub first_front : (row : List ℕ) (count : ℕ) → 0 < count → count ≤ length row → first_waiting (take count row) ≡ Some (get_or row 0 0)
 first_front row zero p h = absurd (omega arith)
 first_front [] (suc count) p h = absurd (omega arith)
 first_front (x ∷ row) (suc count) p h = refl

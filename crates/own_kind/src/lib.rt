@@ -34,9 +34,9 @@ impl RowQueue {
 impl ReadingQueue for RowQueue {
     ghost waiting = { λ q. take q.count q.row };
 
-    ghost short = { first_of (Prim.search rules, Prim.grind (arith, Self.row.coded.inj)) };
+    ghost short = { Prim.search rules };
 
-    ghost below = { λ q. each_take (λ n. n < number_limit) q.row q.count (omega arith) q.sound.2 };
+    ghost below = { λ q. each_take (λ n. n < number_limit) q.row q.count (Prim.omega arith) q.sound.2 };
 
     fn first(&self) -> Option<u64> {
         if self.count == 0 {

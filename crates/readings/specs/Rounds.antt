@@ -2,7 +2,7 @@
 use Rattle.std.specs.Prelude.{◌≡◌, ℕ, zero, suc, ◌+◌, ◌-◌, ◌%◌, ◌<◌, ◌≢◌, List, [], ◌∷◌, ◌++◌, length, Some, Ok, slice_index, slice_set, refl}
 use Rattle.std.proofs.Common.{arith, ap, ◌∙◌}
 use Rattle.std.proofs.lemmas.List.{get_or-set_same, get_or-set_other}
-use Rattle.rules.specs.Queues.{queue_limit, first_of, dropped}
+use Rattle.rules.specs.Queues.{queue_limit, first_waiting, dropped}
 use Rattle.readings.specs.Rings.{round_from}
 
 pub length_round : (slots : List ℕ) (at count : ℕ) → length (round_from slots at count) ≡ count
@@ -22,7 +22,7 @@ same_round slots a b (suc count) e =
     let t = same_round slots (a + 1) (b + 1) count (omega arith) in
     cc
 
-pub first_round : (slots : List ℕ) (start count : ℕ) → start < queue_limit → 0 < count → first_of (round_from slots start count) ≡ Some (slice_index slots start)
+pub first_round : (slots : List ℕ) (start count : ℕ) → start < queue_limit → 0 < count → first_waiting (round_from slots start count) ≡ Some (slice_index slots start)
 first_round slots start zero h p = absurd (omega arith)
 first_round slots start (suc count) h p = ap (λ i. Some (slice_index slots i)) (omega arith)
 

@@ -41,9 +41,9 @@ impl DigitQueue {
 impl ReadingQueue for DigitQueue {
     ghost waiting = { digit_numbers };
 
-    ghost short = { first_of (Prim.search rules, Prim.grind (arith, Self.row.coded.inj)) };
+    ghost short = { Prim.search rules };
 
-    ghost below = { first_of (Prim.search rules, Prim.grind (arith, Self.row.coded.inj)) };
+    ghost below = { Prim.search rules };
 
     fn first(&self) -> Option<u64> {
         self.line.get(0)

@@ -43,9 +43,9 @@ impl RingQueue {
 impl ReadingQueue for RingQueue {
     ghost waiting = { ring_numbers };
 
-    ghost short = { λ s. let l = length_round s.slots s.start s.count in omega arith };
+    ghost short = { λ s. let l = length_round s.slots s.start s.count in Prim.omega arith };
 
-    ghost below = { λ s. each_round (λ n. n < number_limit) s.slots s.start s.count (omega arith) s.sound.3 };
+    ghost below = { λ s. each_round (λ n. n < number_limit) s.slots s.start s.count (Prim.omega arith) s.sound.3 };
 
     fn first(&self) -> Option<u64> {
         if self.count == 0 {

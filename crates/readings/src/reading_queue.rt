@@ -2,7 +2,7 @@ ghost use Rattle.std.specs.Prelude.{◌≡◌, ℕ, ◌<◌, ◌≤◌, List, le
 ghost use Rattle.rules.specs.Numbers.{numbered};
 ghost use Rattle.rules.specs.Calls.{left_by, answer_of};
 ghost use Rattle.rules.specs.Stores.{number_limit};
-ghost use Rattle.rules.specs.Queues.{queue_limit, first_of, dropped, added};
+ghost use Rattle.rules.specs.Queues.{queue_limit, first_waiting, dropped, added};
 
 use rules::refusal::Refusal;
 
@@ -13,7 +13,7 @@ pub trait ReadingQueue {
 
     // The first waiting number, if one waits.
     fn first(&self) -> Option<u64>
-        ensures { result ≡ first_of (waiting self.now) };
+        ensures { result ≡ first_waiting (waiting self.now) };
 
     // Removes the first waiting number; 27 where none waits.
     fn drop_first(&mut self) -> Result<(), Refusal>

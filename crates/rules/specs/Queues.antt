@@ -5,9 +5,9 @@ use Rattle.rules.specs.Stores.{number_limit}
 abbrev pub queue_limit : ℕ
 queue_limit = 16
 
-abbrev pub first_of : List ℕ → Option ℕ
-first_of [] = None
-first_of (n ∷ ns) = Some n
+abbrev pub first_waiting : List ℕ → Option ℕ
+first_waiting [] = None
+first_waiting (n ∷ ns) = Some n
 
 -- dropping removes the first; 27 where none waits
 abbrev pub dropped : List ℕ → Result (List ℕ) ℕ

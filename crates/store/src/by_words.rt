@@ -23,9 +23,9 @@ impl WordCells {
 impl WordStore for WordCells {
     ghost cells = { word_cells };
 
-    ghost sized = { first_of (Prim.search rules, Prim.grind (arith, Self.row.coded.inj)) };
+    ghost sized = { Prim.search rules };
 
-    ghost below = { first_of (Prim.search rules, Prim.grind (arith, Self.row.coded.inj)) };
+    ghost below = { Prim.search rules };
 
     fn load(&self, address: usize) -> Result<u64, Refusal> {
         if address < CELL_COUNT {
