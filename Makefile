@@ -1,17 +1,17 @@
 .PHONY: run devices test
 
-# builds the program, and shows a formula text and the tape that it becomes
+# proves and builds the program, and shows a formula text and the tape that it becomes
 run:
-	rt check tapelist
+	@cd crates/tapelist && rt run < ../../examples/net-weight.txt > /dev/null
 	@cat examples/net-weight.txt
 	@echo ----
-	@target/bin/tapelist < examples/net-weight.txt
+	@crates/tapelist/out/tapelist < examples/net-weight.txt
 
-# builds the exercise of the devices, and shows what both kinds of each answer
+# proves and builds the exercise of the devices, and shows what both kinds of each answer
 devices:
-	rt check devices
-	@target/bin/devices
+	@cd crates/devices && rt run > /dev/null
+	@crates/devices/out/devices
 
-# the gate: everything proved from nothing, every must-fail edit refused, every program run
+# the gate: everything proved, every must-fail edit refused, every program and test run
 test:
 	.ci/run

@@ -27,37 +27,37 @@ pub trait Devices {
 }
 
 impl Answer {
-    fn number(res: Result<u64, Refusal>) -> Answer
-        ensures { result ≡ number (numbered res) }
+    fn number(outcome: Result<u64, Refusal>) -> Answer
+        ensures { result ≡ number (numbered outcome) }
     {
-        match res {
+        match outcome {
             Ok(n) => Answer::Number(n),
             Err(refusal) => Answer::Refused(refusal.number()),
         }
     }
 
-    fn done(res: Result<(), Refusal>) -> Answer
-        ensures { result ≡ done (numbered res) }
+    fn done(outcome: Result<(), Refusal>) -> Answer
+        ensures { result ≡ done (numbered outcome) }
     {
-        match res {
+        match outcome {
             Ok(()) => Answer::Done,
             Err(refusal) => Answer::Refused(refusal.number()),
         }
     }
 
-    fn printed(res: Result<(), Cause>) -> Answer
-        ensures { result ≡ done (caused res) }
+    fn printed(outcome: Result<(), Cause>) -> Answer
+        ensures { result ≡ done (caused outcome) }
     {
-        match res {
+        match outcome {
             Ok(()) => Answer::Done,
             Err(cause) => Answer::Refused(cause.number()),
         }
     }
 
-    fn first(res: Option<u64>) -> Answer
-        ensures { result ≡ first res }
+    fn first(outcome: Option<u64>) -> Answer
+        ensures { result ≡ first outcome }
     {
-        match res {
+        match outcome {
             Some(n) => Answer::Number(n),
             None => Answer::Nothing,
         }

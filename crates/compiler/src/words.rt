@@ -18,11 +18,11 @@ use rules::table::transfer;
 use rules::tape::HEAD_MARK;
 
 // The fourteen digits of a word.
-pub(crate) fn word(left: u64, code: u8, right: u64, res: u64) -> u64
-    requires { (left < 2000) × (code < 100) × (right < 2000) × (res < 2000) }
-    ensures { result ≡ word_of left code right res }
+pub(crate) fn word(left: u64, code: u8, right: u64, target: u64) -> u64
+    requires { (left < 2000) × (code < 100) × (right < 2000) × (target < 2000) }
+    ensures { result ≡ word_of left code right target }
 {
-    left * 10_000_000_000 + code as u64 * 100_000_000 + right * 10_000 + res
+    left * 10_000_000_000 + code as u64 * 100_000_000 + right * 10_000 + target
 }
 
 fn variable_cell(byte: u8) -> u64
@@ -73,15 +73,15 @@ fn target_address(target: Target) -> u64
     }
 }
 
-fn operation_word(op: Operation, res: u64, constants: &Constants) -> u64
-    requires { res < 2000 }
-    ensures { result ≡ operation_word (table constants.now) res op }
+fn operation_word(op: Operation, target: u64, constants: &Constants) -> u64
+    requires { target < 2000 }
+    ensures { result ≡ operation_word (table constants.now) target op }
 {
     word(
         source_address(op.left, constants),
         op.sign.row().code,
         source_address(op.right, constants),
-        res,
+        target,
     )
 }
 
