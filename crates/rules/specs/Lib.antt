@@ -15,3 +15,4 @@ pub mod Calls
 pub mod Stores
 pub mod Queues
 pub mod Labels
+pub mod Ranges

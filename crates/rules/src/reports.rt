@@ -1,7 +1,9 @@
 ghost use Rattle.std.specs.Prelude.{◌≡◌};
+ghost use Rattle.rules.specs.declared.refusal.Refusal.TheVariants as refusals;
 ghost use Rattle.rules.specs.Numbers.{refusal_number, cause_number};
 ghost use Rattle.rules.specs.Refusals.{report, reported, placed};
 
+use crate::ranged::OutOfRange;
 use crate::refusal::{Cause, Fault, Refusal, Report, TextRefusal};
 
 impl Fault {
@@ -63,5 +65,13 @@ impl Cause {
         ensures { result ≡ cause_number self }
     {
         self as u8
+    }
+}
+
+impl From<OutOfRange> for Refusal {
+    ghost from_gives = { λ _ r. r ≡ refusals.OutOfRange };
+
+    fn from(_: OutOfRange) -> Refusal {
+        Refusal::OutOfRange
     }
 }

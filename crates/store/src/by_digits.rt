@@ -9,6 +9,7 @@ use crate::packed_table::PackedTable;
 use crate::packing::CELL_BYTES;
 use crate::word_store::WordStore;
 use rules::limits::{CELL_COUNT, NUMBER_LIMIT};
+use rules::ranged::{Address, Number};
 use rules::refusal::Refusal;
 
 impl PackedCells {
@@ -25,9 +26,7 @@ impl PackedCells {
     pub fn bytes(&self, address: usize) -> Result<[u8; CELL_BYTES], Refusal>
         ensures { numbered result ≡ packed_cell (packed_cells self.now) address }
     {
-        if address >= CELL_COUNT {
-            return Err(Refusal::OutOfRange);
-        }
+        let address = Address::try_from(address as u64)?;
         Ok(self.table.bytes(address))
     }
 }
@@ -39,20 +38,11 @@ impl WordStore for PackedCells {
 
     ghost below = { λ s. cells_below s.table.bytes s.sound };
 
-    fn load(&self, address: usize) -> Result<u64, Refusal> {
-        if address < CELL_COUNT {
-            Ok(self.table.get(address))
-        } else {
-            Err(Refusal::OutOfRange)
-        }
+    fn get(&self, address: Address) -> u64 {
+        self.table.get(address)
     }
 
-    fn store(&mut self, address: usize, number: u64) -> Result<(), Refusal> {
-        if address < CELL_COUNT && number < NUMBER_LIMIT {
-            self.table.put(address, number);
-            Ok(())
-        } else {
-            Err(Refusal::OutOfRange)
-        }
+    fn set(&mut self, address: Address, number: Number) {
+        self.table.put(address, number);
     }
 }

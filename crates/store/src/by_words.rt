@@ -7,6 +7,7 @@ use crate::word_cells::WordCells;
 use crate::word_store::WordStore;
 use crate::word_table::WordTable;
 use rules::limits::{CELL_COUNT, NUMBER_LIMIT};
+use rules::ranged::{Address, Number};
 use rules::refusal::Refusal;
 
 impl WordCells {
@@ -27,20 +28,11 @@ impl WordStore for WordCells {
 
     ghost below = { Prim.search rules };
 
-    fn load(&self, address: usize) -> Result<u64, Refusal> {
-        if address < CELL_COUNT {
-            Ok(self.table.get(address))
-        } else {
-            Err(Refusal::OutOfRange)
-        }
+    fn get(&self, address: Address) -> u64 {
+        self.table.get(address)
     }
 
-    fn store(&mut self, address: usize, number: u64) -> Result<(), Refusal> {
-        if address < CELL_COUNT && number < NUMBER_LIMIT {
-            self.table.put(address, number);
-            Ok(())
-        } else {
-            Err(Refusal::OutOfRange)
-        }
+    fn set(&mut self, address: Address, number: Number) {
+        self.table.put(address, number);
     }
 }

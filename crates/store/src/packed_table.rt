@@ -1,8 +1,9 @@
-ghost use Rattle.std.specs.Prelude.{◌≡◌, ◌<◌, replicate, slice_index, slice_set};
+ghost use Rattle.std.specs.Prelude.{◌≡◌, ◌<◌, length, replicate, slice_index, slice_set};
 ghost use Rattle.rules.specs.Stores.{cell_count, number_limit};
 ghost use Rattle.store.specs.Packing.{Packed, byte_count, bytes_at, cell_bytes, cells_in, packed};
 
 use crate::packing::{CELL_BYTES, pack, unpack};
+use rules::ranged::{Address, Number};
 
 const BYTE_COUNT: usize = 7_000;
 
@@ -21,18 +22,17 @@ impl PackedTable {
         }
     }
 
-    fn part(&self, address: usize) -> &[u8]
-        requires { address < cell_count }
+    fn part(&self, address: Address) -> &[u8]
+        requires { length self.now.bytes ≡ byte_count }
         ensures { result.now ≡ bytes_at self.now.bytes address }
     {
-        let start = CELL_BYTES * address;
+        let start = CELL_BYTES * address.index();
         &self.bytes[start..start + CELL_BYTES]
     }
 
     // The bytes of a cell.
-    pub(crate) fn bytes(&self, address: usize) -> [u8; CELL_BYTES]
-        requires cell { address < cell_count }
-        requires sound { Packed self.now.bytes }
+    pub(crate) fn bytes(&self, address: Address) -> [u8; CELL_BYTES]
+        requires { Packed self.now.bytes }
         ensures { result ≡ packed cell_bytes (slice_index (cells_in self.now.bytes) address) }
     {
         let mut bytes = [0; CELL_BYTES];
@@ -40,22 +40,19 @@ impl PackedTable {
         bytes
     }
 
-    pub(crate) fn get(&self, address: usize) -> u64
-        requires cell { address < cell_count }
-        requires sound { Packed self.now.bytes }
+    pub(crate) fn get(&self, address: Address) -> u64
+        requires { Packed self.now.bytes }
         ensures { result ≡ slice_index (cells_in self.now.bytes) address }
     {
         unpack(self.part(address))
     }
 
-    pub(crate) fn put(&mut self, address: usize, number: u64)
-        requires cell { address < cell_count }
-        requires small { number < number_limit }
-        requires sound { Packed self.old.bytes }
+    pub(crate) fn put(&mut self, address: Address, number: Number)
+        requires { Packed self.old.bytes }
         ensures after { cells_in self.new.bytes ≡ slice_set (cells_in self.old.bytes) address number }
         ensures sound { Packed self.new.bytes }
     {
-        let start = CELL_BYTES * address;
-        self.bytes[start..start + CELL_BYTES].copy_from_slice(&pack(number));
+        let start = CELL_BYTES * address.index();
+        self.bytes[start..start + CELL_BYTES].copy_from_slice(&pack(number.get()));
     }
 }

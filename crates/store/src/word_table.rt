@@ -3,6 +3,7 @@ ghost use Rattle.rules.specs.Stores.{cell_count, number_limit};
 ghost use Rattle.store.specs.Ranges.{Cells};
 
 use rules::limits::CELL_COUNT;
+use rules::ranged::{Address, Number};
 
 // A plain table of words. Its type says nothing of what the words may be.
 #[derive(Drop)]
@@ -19,20 +20,18 @@ impl WordTable {
         }
     }
 
-    pub(crate) fn get(&self, address: usize) -> u64
-        requires { address < cell_count }
+    pub(crate) fn get(&self, address: Address) -> u64
+        requires { length self.now.words ≡ cell_count }
         ensures { result ≡ slice_index self.now.words address }
     {
-        self.words[address]
+        self.words[address.index()]
     }
 
-    pub(crate) fn put(&mut self, address: usize, word: u64)
-        requires cell { address < cell_count }
-        requires small { word < number_limit }
-        requires sound { Cells self.old.words }
+    pub(crate) fn put(&mut self, address: Address, word: Number)
+        requires { Cells self.old.words }
         ensures after { self.new.words ≡ slice_set self.old.words address word }
         ensures sound { Cells self.new.words }
     {
-        self.words[address] = word;
+        self.words[address.index()] = word.get();
     }
 }
