@@ -1,7 +1,8 @@
 -- The eight signs and the nine codes of a word.
-use Rattle.std.specs.Prelude.{ℕ, cond, ◌&&◌, List, [], ◌∷◌, Some, None, Option, ◌==◌}
+use Rattle.std.specs.Prelude.{ℕ, Bool, false, cond, List, [], ◌∷◌, Some, None, Option, ◌==◌}
 use Rattle.rules.specs.declared.sign.Sign.{Sign}
 use Rattle.rules.specs.declared.sign.Sign.TheVariants.{Sum, Product, Difference, Quotient, Distance, Remainder, Greater, Smaller}
+use Rattle.rules.specs.declared.sign.WrittenSign.{WrittenSign}
 use Rattle.rules.specs.declared.sign.CodeRow.{CodeRow}
 
 abbrev pub sign_byte : Sign → ℕ
@@ -29,10 +30,10 @@ abbrev pub transfer_code : ℕ
 transfer_code = 5
 
 abbrev pub sign_row : Sign → CodeRow
-sign_row s = record { sign = Some s; byte = sign_byte s; code = code_of s; arity = 2 }
+sign_row s = record { written = Some (record { sign = s; byte = sign_byte s }); code = code_of s; arity = 2 }
 
 abbrev pub transfer_row : CodeRow
-transfer_row = record { sign = None; byte = 0; code = transfer_code; arity = 1 }
+transfer_row = record { written = None; code = transfer_code; arity = 1 }
 
 abbrev pub code_table : List CodeRow
 code_table =
@@ -46,7 +47,19 @@ code_table =
     ∷ (sign_row Greater
     ∷ (sign_row Smaller ∷ []))))))))
 
--- the sign of the first row with two operands that has this byte
+abbrev pub is_written : ℕ → Option WrittenSign → Bool
+is_written b None = false
+is_written b (Some w) = w.byte == b
+
+-- this byte writes the row's sign
+abbrev pub writes : ℕ → CodeRow → Bool
+writes b r = is_written b r.written
+
+abbrev pub sign_in : Option WrittenSign → Option Sign
+sign_in None = None
+sign_in (Some w) = Some w.sign
+
+-- the sign of the first row that this byte writes
 abbrev pub sign_of : ℕ → List CodeRow → Option Sign
 sign_of b [] = None
-sign_of b (r ∷ rs) = cond (r.arity == 2 && r.byte == b) r.sign (sign_of b rs)
+sign_of b (r ∷ rs) = cond (writes b r) (sign_in r.written) (sign_of b rs)

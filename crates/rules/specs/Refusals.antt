@@ -1,30 +1,34 @@
 -- The number, line and place of each refusal of a text.
-use Rattle.std.specs.Prelude.{ℕ}
+use Rattle.std.specs.Prelude.{ℕ, List, ◌∷◌, ◌++◌, codes, decimal}
 use Rattle.rules.specs.declared.refusal.Report.{Report}
 use Rattle.rules.specs.declared.refusal.Fault.{Fault}
-use Rattle.rules.specs.declared.refusal.Fault.TheVariants as f
+use Rattle.rules.specs.declared.refusal.Fault.TheVariants.{LineEndMissing, ByteOutOfPlace, BadConstant, NestedTooDeep}
 use Rattle.rules.specs.declared.refusal.TextRefusal.{TextRefusal}
-use Rattle.rules.specs.declared.refusal.TextRefusal.TheVariants.{TextTooLong, LineEndMissing, ByteOutOfPlace, BadConstant, NestedTooDeep, GroupOutOfPlace, LetterWithoutGroup, TooManyConstants, TooManyInstructions, TapeTooShort}
+use Rattle.rules.specs.declared.refusal.TextRefusal.TheVariants.{TextTooLong, Unreadable, GroupOutOfPlace, LetterWithoutGroup, TooManyConstants, TooManyInstructions, TapeTooShort}
 
 abbrev pub report : ℕ → ℕ → ℕ → Report
 report n l p = record { number = n; line = l; place = p }
 
+abbrev pub fault_number : Fault → ℕ
+fault_number LineEndMissing = 2
+fault_number ByteOutOfPlace = 3
+fault_number BadConstant = 4
+fault_number NestedTooDeep = 5
+
 -- 0 where no line or no place is named
 abbrev pub reported : TextRefusal → Report
 reported TextTooLong = report 1 0 0
-reported (LineEndMissing l p) = report 2 l p
-reported (ByteOutOfPlace l p) = report 3 l p
-reported (BadConstant l p) = report 4 l p
-reported (NestedTooDeep l p) = report 5 l p
-reported (GroupOutOfPlace l p) = report 6 l p
-reported (LetterWithoutGroup l p) = report 7 l p
-reported (TooManyConstants l p) = report 8 l p
+reported (Unreadable e at) = report (fault_number e) at.line at.place
+reported (GroupOutOfPlace at) = report 6 at.line at.place
+reported (LetterWithoutGroup at) = report 7 at.line at.place
+reported (TooManyConstants at) = report 8 at.line at.place
 reported (TooManyInstructions l) = report 9 l 0
 reported TapeTooShort = report 10 0 0
 
 -- the refusal of a text whose line fails to be read
 abbrev pub placed : Fault → ℕ → ℕ → TextRefusal
-placed f.LineEndMissing l p = LineEndMissing l p
-placed f.ByteOutOfPlace l p = ByteOutOfPlace l p
-placed f.BadConstant l p = BadConstant l p
-placed f.NestedTooDeep l p = NestedTooDeep l p
+placed e l p = Unreadable e (record { line = l; place = p })
+
+-- what is written for a refusal: its number, line and place, by commas
+abbrev pub report_text : Report → List ℕ
+report_text r = codes "refused," ++ (decimal r.number ++ (44 ∷ (decimal r.line ++ (44 ∷ decimal r.place))))

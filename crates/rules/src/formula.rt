@@ -1,23 +1,25 @@
-// What an operand is when it is no pair: variables and group letters by their byte, constants by their number.
-#[derive(Clone, Copy)]
+use crate::ranged::{Letter, Number, Variable};
+
+// What an operand is when it is no pair.
+#[derive(Clone, Copy, Debug, PartialEq, Eq)]
 pub enum Atom {
-    Variable(u8),
-    Pointed(u8),
-    Letter(u8),
-    Constant(u64),
+    Variable(Variable),
+    Pointed(Variable),
+    Letter(Letter),
+    Constant(Number),
 }
 
 // Where a line's result goes: a variable, the data cell that a variable points to, the label, or the place register.
-#[derive(Clone, Copy)]
+#[derive(Clone, Copy, Debug, PartialEq, Eq)]
 pub enum Target {
-    Variable(u8),
-    Pointed(u8),
+    Variable(Variable),
+    Pointed(Variable),
     Label,
     Place,
 }
 
 // What a byte can begin.
-#[derive(Clone, Copy)]
+#[derive(Clone, Copy, Debug, PartialEq, Eq)]
 pub enum Start {
     Parenthesis,
     Variable,

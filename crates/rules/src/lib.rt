@@ -4,7 +4,6 @@
 pub mod cells;
 pub mod formula;
 pub mod limits;
-
 pub mod operation;
 pub mod ranged;
 pub mod refusal;

@@ -51,7 +51,7 @@ impl<const FIRST: u64, const COUNT: u64> Ranged<FIRST, COUNT> {
         ensures is { result ≡ self.entry - FIRST }
         ensures few { result < COUNT }
     {
-        (self.value - FIRST) as usize
+        (self.get() - FIRST) as usize
     }
 }
 

@@ -1,5 +1,12 @@
+// Where a text is refused: lines and places count from 1, and place 0 names the line as a whole.
+#[derive(Clone, Copy, Debug, PartialEq, Eq)]
+pub struct Position {
+    pub line: usize,
+    pub place: usize,
+}
+
 // Why the reading of one line fails.
-#[derive(Clone, Copy)]
+#[derive(Clone, Copy, Debug, PartialEq, Eq)]
 pub enum Fault {
     LineEndMissing,
     ByteOutOfPlace,
@@ -7,23 +14,20 @@ pub enum Fault {
     NestedTooDeep,
 }
 
-// Why a text is refused, and where: lines and places count from 1, and place 0 names the line as a whole.
-#[derive(Clone, Copy)]
+// Why a text is refused, and where.
+#[derive(Clone, Copy, Debug, PartialEq, Eq)]
 pub enum TextRefusal {
     TextTooLong,
-    LineEndMissing { line: usize, place: usize },
-    ByteOutOfPlace { line: usize, place: usize },
-    BadConstant { line: usize, place: usize },
-    NestedTooDeep { line: usize, place: usize },
-    GroupOutOfPlace { line: usize, place: usize },
-    LetterWithoutGroup { line: usize, place: usize },
-    TooManyConstants { line: usize, place: usize },
+    Unreadable(Fault, Position),
+    GroupOutOfPlace(Position),
+    LetterWithoutGroup(Position),
+    TooManyConstants(Position),
     TooManyInstructions { line: usize },
     TapeTooShort,
 }
 
 // A refusal as it is shown: its number, the line and the place, 0 where none is named.
-#[derive(Clone, Copy)]
+#[derive(Clone, Copy, Debug, PartialEq, Eq)]
 pub struct Report {
     pub number: u8,
     pub line: usize,
@@ -31,7 +35,7 @@ pub struct Report {
 }
 
 // Why a call of the unit, or one of its devices, refuses; each case is worth its number.
-#[derive(Clone, Copy, PartialEq, Eq, Debug)]
+#[derive(Clone, Copy, Debug, PartialEq, Eq)]
 pub enum Refusal {
     OutOfRange = 15,
     NoCode = 18,
@@ -40,7 +44,7 @@ pub enum Refusal {
 }
 
 // Why a label stops; each case is worth its number. The label line refuses a code for these.
-#[derive(Clone, Copy, PartialEq, Eq, Debug)]
+#[derive(Clone, Copy, Debug, PartialEq, Eq)]
 pub enum Cause {
     LabelFull = 35,
     CodeTooLarge = 36,

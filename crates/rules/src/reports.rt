@@ -1,29 +1,48 @@
-ghost use Rattle.std.specs.Prelude.{◌≡◌};
+ghost use Rattle.std.specs.Prelude.{◌≡◌, Some, decimal};
 ghost use Rattle.rules.specs.declared.refusal.Refusal.TheVariants as refusals;
 ghost use Rattle.rules.specs.Numbers.{refusal_number, cause_number};
-ghost use Rattle.rules.specs.Refusals.{report, reported, placed};
+ghost use Rattle.rules.specs.Refusals.{fault_number, placed, report_text, reported};
 
 use crate::ranged::OutOfRange;
-use crate::refusal::{Cause, Fault, Refusal, Report, TextRefusal};
+use crate::refusal::{Cause, Fault, Position, Refusal, Report, TextRefusal};
+use std::fmt;
 
 impl Fault {
     // The refusal of a text whose line fails at a place.
     pub fn at(self, line: usize, place: usize) -> TextRefusal
         ensures { result ≡ placed self line place }
     {
-        match self {
-            Fault::LineEndMissing => TextRefusal::LineEndMissing { line, place },
-            Fault::ByteOutOfPlace => TextRefusal::ByteOutOfPlace { line, place },
-            Fault::BadConstant => TextRefusal::BadConstant { line, place },
-            Fault::NestedTooDeep => TextRefusal::NestedTooDeep { line, place },
+        TextRefusal::Unreadable(self, Position { line, place })
+    }
+}
+
+// The refusals of a text by which a line cannot be read are numbered from 2.
+impl From<Fault> for u8 {
+    ghost from_gives = { λ f n. n ≡ fault_number f };
+
+    fn from(fault: Fault) -> u8 {
+        match fault {
+            Fault::LineEndMissing => 2,
+            Fault::ByteOutOfPlace => 3,
+            Fault::BadConstant => 4,
+            Fault::NestedTooDeep => 5,
         }
     }
 }
 
-impl Report {
-    fn new(number: u8, line: usize, place: usize) -> Report
-        ensures { result ≡ report number line place }
-    {
+impl From<TextRefusal> for Report {
+    ghost from_gives = { λ r p. p ≡ reported r };
+
+    fn from(refusal: TextRefusal) -> Report {
+        let (number, Position { line, place }) = match refusal {
+            TextRefusal::TextTooLong => (1, NOWHERE),
+            TextRefusal::Unreadable(fault, at) => (u8::from(fault), at),
+            TextRefusal::GroupOutOfPlace(at) => (6, at),
+            TextRefusal::LetterWithoutGroup(at) => (7, at),
+            TextRefusal::TooManyConstants(at) => (8, at),
+            TextRefusal::TooManyInstructions { line } => (9, Position { line, place: 0 }),
+            TextRefusal::TapeTooShort => (10, NOWHERE),
+        };
         Report {
             number,
             line,
@@ -32,39 +51,30 @@ impl Report {
     }
 }
 
-impl TextRefusal {
-    // The refusal's number, line and place.
-    pub fn report(self) -> Report
-        ensures { result ≡ reported self }
-    {
-        match self {
-            TextRefusal::TextTooLong => Report::new(1, 0, 0),
-            TextRefusal::LineEndMissing { line, place } => Report::new(2, line, place),
-            TextRefusal::ByteOutOfPlace { line, place } => Report::new(3, line, place),
-            TextRefusal::BadConstant { line, place } => Report::new(4, line, place),
-            TextRefusal::NestedTooDeep { line, place } => Report::new(5, line, place),
-            TextRefusal::GroupOutOfPlace { line, place } => Report::new(6, line, place),
-            TextRefusal::LetterWithoutGroup { line, place } => Report::new(7, line, place),
-            TextRefusal::TooManyConstants { line, place } => Report::new(8, line, place),
-            TextRefusal::TooManyInstructions { line } => Report::new(9, line, 0),
-            TextRefusal::TapeTooShort => Report::new(10, 0, 0),
-        }
+// No line and no place.
+const NOWHERE: Position = Position { line: 0, place: 0 };
+
+impl fmt::Display for Report {
+    ghost output = { λ r. Some (report_text r) };
+
+    fn fmt<W: fmt::Write>(&self, f: &mut fmt::Formatter<W>) -> fmt::Result {
+        write!(f, "refused,{},{},{}", self.number, self.line, self.place)
     }
 }
 
-impl Refusal {
-    pub fn number(self) -> u8
-        ensures { result ≡ refusal_number self }
-    {
-        self as u8
+impl From<Refusal> for u8 {
+    ghost from_gives = { λ r n. n ≡ refusal_number r };
+
+    fn from(refusal: Refusal) -> u8 {
+        refusal as u8
     }
 }
 
-impl Cause {
-    pub fn number(self) -> u8
-        ensures { result ≡ cause_number self }
-    {
-        self as u8
+impl From<Cause> for u8 {
+    ghost from_gives = { λ c n. n ≡ cause_number c };
+
+    fn from(cause: Cause) -> u8 {
+        cause as u8
     }
 }
 

@@ -1,6 +1,7 @@
 // The sign between the two operands of a pair, numbered by its row in the table of codes.
-#[derive(Clone, Copy)]
+#[derive(Clone, Copy, Debug, Default, PartialEq, Eq)]
 pub enum Sign {
+    #[default]
     Sum = 0,
     Product = 1,
     Difference = 2,
@@ -11,11 +12,17 @@ pub enum Sign {
     Smaller = 8,
 }
 
-// One of the nine codes of a word: the sign that writes it, if one does, the sign's byte (0 for none), its number and how many operands it works on.
-#[derive(Clone, Copy)]
-pub struct CodeRow {
-    pub sign: Option<Sign>,
+// A sign, and the byte that writes it.
+#[derive(Clone, Copy, Debug, PartialEq, Eq)]
+pub struct WrittenSign {
+    pub sign: Sign,
     pub byte: u8,
+}
+
+// One of the nine codes of a word: the sign that stands for it, if one does, its number, and how many operands it works on.
+#[derive(Clone, Copy, Debug, PartialEq, Eq)]
+pub struct CodeRow {
+    pub written: Option<WrittenSign>,
     pub code: u8,
     pub arity: u8,
 }

@@ -1,61 +1,77 @@
-ghost use Rattle.std.specs.Prelude.{◌≡◌, ◌<◌};
-ghost use Rattle.rules.specs.Codes.{code_table, sign_of, sign_row, transfer_row};
+ghost use Rattle.std.specs.Prelude.{◌≡◌, ◌<◌, option_copied};
+ghost use Rattle.std.specs.List.{find};
+ghost use Rattle.rules.specs.Codes.{code_table, sign_of, sign_row, transfer_row, writes};
 
-use crate::sign::{CodeRow, Sign};
+use crate::sign::{CodeRow, Sign, WrittenSign};
 
 // The nine codes, in the order of their numbers.
 pub const CODES: [CodeRow; 9] = [
     CodeRow {
-        sign: Some(Sign::Sum),
-        byte: b'+',
+        written: Some(WrittenSign {
+            sign: Sign::Sum,
+            byte: b'+',
+        }),
         code: 1,
         arity: 2,
     },
     CodeRow {
-        sign: Some(Sign::Product),
-        byte: b'*',
+        written: Some(WrittenSign {
+            sign: Sign::Product,
+            byte: b'*',
+        }),
         code: 2,
         arity: 2,
     },
     CodeRow {
-        sign: Some(Sign::Difference),
-        byte: b'-',
+        written: Some(WrittenSign {
+            sign: Sign::Difference,
+            byte: b'-',
+        }),
         code: 3,
         arity: 2,
     },
     CodeRow {
-        sign: Some(Sign::Quotient),
-        byte: b':',
+        written: Some(WrittenSign {
+            sign: Sign::Quotient,
+            byte: b':',
+        }),
         code: 4,
         arity: 2,
     },
     CodeRow {
-        sign: None,
-        byte: 0,
+        written: None,
         code: 5,
         arity: 1,
     },
     CodeRow {
-        sign: Some(Sign::Distance),
-        byte: b'~',
+        written: Some(WrittenSign {
+            sign: Sign::Distance,
+            byte: b'~',
+        }),
         code: 6,
         arity: 2,
     },
     CodeRow {
-        sign: Some(Sign::Remainder),
-        byte: b'%',
+        written: Some(WrittenSign {
+            sign: Sign::Remainder,
+            byte: b'%',
+        }),
         code: 7,
         arity: 2,
     },
     CodeRow {
-        sign: Some(Sign::Greater),
-        byte: b'>',
+        written: Some(WrittenSign {
+            sign: Sign::Greater,
+            byte: b'>',
+        }),
         code: 8,
         arity: 2,
     },
     CodeRow {
-        sign: Some(Sign::Smaller),
-        byte: b'<',
+        written: Some(WrittenSign {
+            sign: Sign::Smaller,
+            byte: b'<',
+        }),
         code: 9,
         arity: 2,
     },
@@ -68,16 +84,20 @@ pub fn codes() -> [CodeRow; 9]
     CODES
 }
 
+// The row whose sign a byte writes.
+fn row_of(byte: u8) -> Option<&'static CodeRow>
+    ensures { option_copied result ≡ find (writes byte) code_table }
+{
+    CODES.iter().find(|row| row.is_written_by(byte))
+}
+
 // The sign that a byte is.
+#[tactic(auto, using(crate::proofs::Signs::sign_found))]
 pub fn sign_of(byte: u8) -> Option<Sign>
     ensures { result ≡ sign_of byte code_table }
 {
-    for row in CODES {
-        if row.arity == 2 && row.byte == byte {
-            return row.sign;
-        }
-    }
-    None
+    let row = row_of(byte)?;
+    row.written.map(|written| written.sign)
 }
 
 // Where the transfer stands in the table: the one row without a sign.
@@ -88,6 +108,14 @@ pub fn transfer() -> CodeRow
     ensures { result ≡ transfer_row }
 {
     CODES[TRANSFER_ROW]
+}
+
+impl CodeRow {
+    fn is_written_by(&self, byte: u8) -> bool
+        ensures { result ≡ writes byte self.now }
+    {
+        self.written.is_some_and(|written| written.byte == byte)
+    }
 }
 
 impl Sign {
