@@ -19,7 +19,7 @@ use Rattle.rules.specs.declared.formula.Target.TheVariants as T
 use Rattle.rules.specs.Codes.{sign_byte, code_table, sign_of}
 use Rattle.rules.specs.Tree.{Operand, atom, pair, Side, reading, single, both, Line}
 use Rattle.rules.specs.Written.{written, written_atom, written_side, written_target, written_line}
-use Rattle.rules.specs.Reading.{Read, got, fails, onward, first, between, is_digit, start, digit_run, Digits, proper, constant_at, constant_if, variable_at, byte_at, letter_at, sign_if, sign_at, second_by, pair_by, closed_by, operand_on, inside_at, operand_at, second_at, depth_limit, single_on, side_after, side_on, side_at, opening_at, target_on, target_at, end_at, line_at}
+use Rattle.rules.specs.Reading.{Read, got, fails, onward, first, between, is_digit, start, digit_run, Digits, proper, constant_at, constant_if, letter_from, variable_at, byte_at, letter_at, sign_if, sign_at, second_by, pair_by, closed_by, operand_on, inside_at, operand_at, second_at, depth_limit, single_on, side_after, side_on, side_at, opening_at, target_on, target_at, end_at, line_at}
 use Rattle.rules.specs.Programs.{IsVariable, IsLetter, GoodAtom, GoodOperand, GoodSide, GoodTarget, GoodLine}
 use Rattle.laws.specs.Places.{place_at, with_end, count_of, open_after, Begins, BeginsNone, Stands, PlacesAreFirst}
 use Rattle.laws.proofs.Digits.{decimal_digits, digit_at, digits_front, constant_start, constant_rest, digit_start}
@@ -217,25 +217,28 @@ byte_places b n h xs e left q = ways (eqb (first xs) b) refl q
     ways true t r = never r
     ways false t r = base (byte_at b) (λ ws. ws ≡ b ∷ []) n xs e left (b ∷ []) refl r (λ zs. keeps (λ y. byte_at b (y ∷ zs) ≡ fails ByteOutOfPlace (suc (length zs))) xs (rw (h, byte_at)) (rw (t, byte_at)))
 
+abbrev AlphabetFit : ℕ → List ℕ → Type 0
+AlphabetFit a ws = (v : ℕ) × ((a ≤ v) × (v ≤ a + 25)) × (ws ≡ v ∷ [])
+
+-- the line end is no letter of the alphabet
+alphabet_places : (a n : ℕ) → between a (a + 25) 10 ≡ false → Places (letter_from a) (AlphabetFit a) n
+alphabet_places a n h xs e left q = ways (between a (a + 25) (first xs)) refl q
+  where
+    ways : (t : Bool) → between a (a + 25) (first xs) ≡ t → ◌≡◌ {A = Read ℕ} (elim t [ true ↦ got (first xs) (drop 1 xs) | false ↦ fails ByteOutOfPlace (length xs) ]) (fails e left) → Found (letter_from a) (AlphabetFit a) n e xs left
+    ways true t r = never r
+    ways false t r = base (letter_from a) (AlphabetFit a) n xs e left (a ∷ []) (a, (omega arith, omega arith), refl) r (λ zs. keeps (λ y. letter_from a (y ∷ zs) ≡ fails ByteOutOfPlace (suc (length zs))) xs (rw (h, letter_from)) (rw (t, letter_from)))
+
 abbrev VariableFit : List ℕ → Type 0
 VariableFit ws = (v : ℕ) × IsVariable v × (ws ≡ v ∷ [])
 
 variable_places : (n : ℕ) → Places variable_at VariableFit n
-variable_places n xs e left q = ways (between 97 122 (first xs)) refl q
-  where
-    ways : (t : Bool) → between 97 122 (first xs) ≡ t → ◌≡◌ {A = Read ℕ} (elim t [ true ↦ got (first xs) (drop 1 xs) | false ↦ fails ByteOutOfPlace (length xs) ]) (fails e left) → Found variable_at VariableFit n e xs left
-    ways true t r = never r
-    ways false t r = base variable_at VariableFit n xs e left (97 ∷ []) (97, (omega arith, omega arith), refl) r (λ zs. keeps (λ y. variable_at (y ∷ zs) ≡ fails ByteOutOfPlace (suc (length zs))) xs refl (rw (t, variable_at)))
+variable_places n = alphabet_places 97 n refl
 
 abbrev LetterFit : List ℕ → Type 0
 LetterFit ws = (v : ℕ) × IsLetter v × (ws ≡ v ∷ [])
 
 letter_places : (n : ℕ) → Places letter_at LetterFit n
-letter_places n xs e left q = ways (between 65 90 (first xs)) refl q
-  where
-    ways : (t : Bool) → between 65 90 (first xs) ≡ t → ◌≡◌ {A = Read ℕ} (elim t [ true ↦ got (first xs) (drop 1 xs) | false ↦ fails ByteOutOfPlace (length xs) ]) (fails e left) → Found letter_at LetterFit n e xs left
-    ways true t r = never r
-    ways false t r = base letter_at LetterFit n xs e left (65 ∷ []) (65, (omega arith, omega arith), refl) r (λ zs. keeps (λ y. letter_at (y ∷ zs) ≡ fails ByteOutOfPlace (suc (length zs))) xs refl (rw (t, letter_at)))
+letter_places n = alphabet_places 65 n refl
 
 abbrev SignFit : List ℕ → Type 0
 SignFit ws = (s : Sign) × (ws ≡ sign_byte s ∷ [])

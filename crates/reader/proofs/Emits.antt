@@ -1,14 +1,13 @@
 -- A pair's operations, as the code puts them together.
-use Rattle.std.proofs.Common.{◌≡◌, ℕ, ◌+◌, ◌≤◌, List, [], ◌∷◌, ◌++◌, length, IfOk, Ok, Err, Result, refl, append_assoc, arith, Bor}
+use Rattle.std.proofs.Common.{◌≡◌, ℕ, List, [], ◌∷◌, ◌++◌, Ok, Err, Result, refl, append_assoc}
 use Rattle.rules.specs.declared.sign.Sign.{Sign}
 use Rattle.rules.specs.declared.operation.Source.{Source}
 use Rattle.rules.specs.declared.operation.Operation.{Operation}
 use Rattle.rules.specs.Tree.{Operand, pair}
-use Rattle.rules.specs.Reading.{got, operand_at, second_at, pair_at}
+use Rattle.rules.specs.Reading.{got, sign_at, operand_at, second_at, pair_at}
 use Rattle.rules.specs.Operations.{source, waiting_after, operations}
 use Rattle.reader.specs.declared.failure.Failure.{Failure}
-use Rattle.reader.specs.declared.operations.Operations.{Operations}
-use Rattle.reader.specs.Held.{held}
+use Rattle.reader.specs.declared.cursor.Cursor.{Cursor}
 use Rattle.reader.specs.Pairs.{added, SecondRead, PairRead}
 
 -- the right operand's operations and then the pair's own
@@ -20,11 +19,10 @@ pub emits : (h h₁ h₂ : List Operation) (l r : Operand) (s : Sign) (left : So
 emits h h₁ h₂ l r s left w e₁ e₂ e₃ = rw (e₃, e₁, e₂) (simp append_assoc)
 
 -- after a left operand, what reads the sign and the right operand has read a pair
-pub second_pair : (n w : ℕ) (xs ys : List ℕ) (before mid after : Operations) (l : Operand) (left : Source) (r : Result (Bor (List ℕ)) Failure) → operand_at n xs ≡ got l ys → left ≡ source l w → held mid ≡ held before ++ operations l w → SecondRead (second_at n ys) left w mid r after → PairRead (pair_at n xs) w before r after
-second_pair n w xs ys before mid after l left (Ok rest) e₁ e₂ e₃ g =
-    (pair l g.0.0 g.0.1, rw (e₁, g.1), refl, emits (held before) (held mid) (held after) l g.0.1 g.0.0 left w e₃ e₂ g.2)
-second_pair n w xs ys before mid after l left (Err e) e₁ e₂ e₃ g = rw (e₁, g)
+pub second_pair : (n w : ℕ) (xs : List ℕ) (before mid after : Cursor) (l : Operand) (left : Source) (r : Result (Unit {0}) Failure) → operand_at n xs ≡ got l mid.rest.now → left ≡ source l w → mid.operations.items ≡ before.operations.items ++ operations l w → SecondRead (second_at n mid.rest.now) left w mid r after → PairRead (pair_at n xs) w before r after
+second_pair n w xs before mid after l left (Ok x) e₁ e₂ e₃ g =
+    (pair l g.0.0 g.0.1, rw (e₁, g.1), refl, emits before.operations.items mid.operations.items after.operations.items l g.0.1 g.0.0 left w e₃ e₂ g.2)
+second_pair n w xs before mid after l left (Err e) e₁ e₂ e₃ g = rw (e₁, g)
 
-pub spent_on : (r : Result (Bor (List ℕ)) Failure) (a b c : ℕ) → b ≤ c → IfOk r (λ x. a + length x.now ≤ b) → IfOk r (λ x. a + length x.now ≤ c)
-spent_on (Ok x) a b c h g = omega arith
-spent_on (Err e) a b c h g = tt
+pub second_is : (n m : ℕ) (xs ys zs : List ℕ) (s : Sign) (r : Operand) → sign_at xs ≡ got s ys → m ≡ n → operand_at m ys ≡ got r zs → second_at n xs ≡ got (s, r) zs
+second_is n m xs ys zs s r e₁ e e₂ = let e₃ : operand_at n ys ≡ got r zs = rw e at e₂ in rw (e₁, e₃)

@@ -1,4 +1,4 @@
-pub mod Held
+pub mod Lines
 pub mod Told
 pub mod Pairs
 pub mod Sides

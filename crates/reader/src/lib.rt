@@ -1,9 +1,8 @@
-//! Reads one line of a formula text: its bytes to its parts and its operations, with no heap.
+//! Reads one line of a formula text: its bytes to what it works out and where the result goes, with no heap.
 #![tactic(auto)]
 
-mod bytes;
+mod cursor;
 pub mod failure;
 pub mod line;
 pub mod numbers;
-pub mod operations;
 mod pairs;

@@ -1,100 +1,129 @@
-ghost use Rattle.std.specs.Prelude.{◌≡◌, ◌+◌, ◌*◌, ◌≤◌, length};
+ghost use Rattle.std.specs.Prelude.{◌≡◌, ◌≤◌, [], length};
 ghost use Rattle.rules.specs.Reading.{opening_at, side_at, target_at, line_at, line_read};
 ghost use Rattle.reader.specs.Told.{Reads, Told, First};
-ghost use Rattle.reader.specs.Sides.{alone as alone_of, SideRead, PartsRead};
+ghost use Rattle.reader.specs.Sides.{alone as alone_of, SideRead, LineRead};
 
-use crate::bytes::{byte, is_letter, start, variable};
+use crate::cursor::{CAPACITY, Cursor, start};
 use crate::failure::{Failure, Misread};
-use crate::operations::Operations;
-use crate::pairs::{operand, second};
+use crate::pairs::Depth;
+use arrayvec::ArrayVec;
 use rules::formula::{Atom, Start, Target};
-use rules::limits::{DEPTH_LIMIT, LINE_LIMIT};
-use rules::operation::{LineParts, SideKind, Source};
+use rules::limits::LINE_LIMIT;
+use rules::operation::{Operation, Source};
+use rules::ranged::Letter;
 use rules::refusal::Fault;
+
+// What a line works out: a reading, what one atom names, or the operations of a pair in the order in which they are worked.
+#[derive(Drop)]
+pub enum Side {
+    Reading,
+    Single(Atom),
+    Pair(ArrayVec<Operation, CAPACITY>),
+}
 
 // A line that was read.
 #[derive(Drop)]
 pub struct ReadLine {
-    pub parts: LineParts,
-    pub operations: Operations,
-}
-
-// A line opens with a group letter and a comma.
-fn opening(line: &[u8]) -> Result<(u8, &[u8]), Failure>
-    ensures { Reads (opening_at line.now) result }
-{
-    match line {
-        [letter, comma, rest @ ..] if is_letter(*letter) && *comma == b',' => Ok((*letter, rest)),
-        [b'A'..=b'Z', after @ ..] => Err(Failure::at(Fault::ByteOutOfPlace, after)),
-        _ => Err(Failure::at(Fault::ByteOutOfPlace, line)),
-    }
+    pub group: Letter,
+    pub side: Side,
+    pub target: Target,
 }
 
 // The atom that stands alone before a comma.
 fn alone(left: Source, after: &[u8]) -> Option<Atom>
     ensures { result ≡ alone_of left after.now }
 {
-    match left {
-        Source::Named(atom) => match after {
-            [b',', ..] => Some(atom),
-            _ => None,
-        },
-        Source::Temporary(_) => None,
+    match (left, after) {
+        (Source::Named(atom), [b',', ..]) => Some(atom),
+        _ => None,
     }
 }
 
-// A reading, an atom that stands alone, or a pair, whose operations are pushed.
-fn side<'a>(text: &'a [u8], out: &mut Operations) -> Result<(SideKind, &'a [u8]), Failure>
-    requires { 4 * out.old.len + length text.now ≤ 78 }
-    ensures { SideRead (side_at text.now) out.old result out.new }
-{
-    if let [b'?', rest @ ..] = text {
-        return Ok((SideKind::Reading, rest));
-    }
-    let (left, after) = operand(text, DEPTH_LIMIT, 0, out)?;
-    if let Some(atom) = alone(left, after) {
-        return Ok((SideKind::Single(atom), after));
-    }
-    let rest = second(left, after, DEPTH_LIMIT, 0, out)?;
-    Ok((SideKind::Pair, rest))
-}
-
-// Where the result goes: a variable, a pointed cell, the label or the place register.
-fn goal(text: &[u8]) -> Result<(Target, &[u8]), Failure>
-    ensures { Reads (target_at text.now) result }
-{
-    let [head, rest @ ..] = text else {
-        return Err(Failure::at(Fault::ByteOutOfPlace, text));
-    };
-    match start(*head) {
-        Start::Variable => Ok((Target::Variable(*head), rest)),
-        Start::Pointer => {
-            let (v, after) = variable(rest)?;
-            Ok((Target::Pointed(v), after))
+impl<'a> Cursor<'a> {
+    // A line opens with a group letter and a comma.
+    fn opening(&mut self) -> Result<Letter, Failure>
+        ensures reads { Reads (opening_at self.old.rest.now) result self.new.rest.now }
+        ensures operations { self.new.operations ≡ self.old.operations }
+    {
+        let line = self.rest;
+        let [letter, after @ ..] = line else {
+            return Err(self.out_of_place());
+        };
+        let Ok(group) = Letter::try_from(u64::from(*letter)) else {
+            return Err(self.out_of_place());
+        };
+        self.rest = after;
+        match line {
+            [_letter, comma, rest @ ..] if *comma == b',' => {
+                self.rest = rest;
+                Ok(group)
+            }
+            _ => Err(self.out_of_place()),
         }
-        Start::Other if *head == b'?' => Ok((Target::Label, rest)),
-        Start::Other if *head == b'#' => Ok((Target::Place, rest)),
-        _ => Err(Failure::at(Fault::ByteOutOfPlace, text)),
     }
-}
 
-// Opening, side, comma and target, and nothing more.
-fn parts(text: &[u8], out: &mut Operations) -> Result<LineParts, Failure>
-    requires { 4 * out.old.len + length text.now ≤ 80 }
-    ensures { PartsRead (line_at text.now) out.old result out.new }
-{
-    let (group, rest) = opening(text)?;
-    let (side, after) = side(rest, out)?;
-    let (_, more) = byte(b',', after)?;
-    let (target, left) = goal(more)?;
-    if left.len() > 0 {
-        return Err(Failure::at(Fault::ByteOutOfPlace, left));
+    // A reading, an atom that stands alone, or a pair.
+    fn side(&mut self) -> Result<Side, Failure>
+        requires bytes { length self.old.rest.now ≤ 78 }
+        requires operations { self.old.operations.items ≡ [] }
+        ensures { SideRead (side_at self.old.rest.now) result self.new.rest.now }
+    {
+        if let [b'?', rest @ ..] = self.rest {
+            self.rest = rest;
+            return Ok(Side::Reading);
+        }
+        let left = self.operand(Depth::none())?;
+        if let Some(atom) = alone(left, self.rest) {
+            return Ok(Side::Single(atom));
+        }
+        self.second(left, Depth::none())?;
+        Ok(Side::Pair(self.operations.take()))
     }
-    Ok(LineParts {
-        group,
-        side,
-        target,
-    })
+
+    // Where the result goes: a variable, a pointed cell, the label or the place register.
+    fn target(&mut self) -> Result<Target, Failure>
+        ensures { Reads (target_at self.old.rest.now) result self.new.rest.now }
+    {
+        let [head, rest @ ..] = self.rest else {
+            return Err(self.out_of_place());
+        };
+        match start(*head) {
+            Start::Variable => Ok(Target::Variable(self.letter(b'a')?)),
+            Start::Pointer => {
+                self.rest = rest;
+                Ok(Target::Pointed(self.letter(b'a')?))
+            }
+            Start::Other if *head == b'?' => {
+                self.rest = rest;
+                Ok(Target::Label)
+            }
+            Start::Other if *head == b'#' => {
+                self.rest = rest;
+                Ok(Target::Place)
+            }
+            _ => Err(self.out_of_place()),
+        }
+    }
+
+    // Opening, side, comma and target, and nothing more.
+    fn line(&mut self) -> Result<ReadLine, Failure>
+        requires bytes { length self.old.rest.now ≤ 80 }
+        requires operations { self.old.operations.items ≡ [] }
+        ensures { LineRead (line_at self.old.rest.now) result }
+    {
+        let group = self.opening()?;
+        let side = self.side()?;
+        self.byte(b',')?;
+        let target = self.target()?;
+        if !self.rest.is_empty() {
+            return Err(self.out_of_place());
+        }
+        Ok(ReadLine {
+            group,
+            side,
+            target,
+        })
+    }
 }
 
 // Reads one line, its line end left out. Where it fails, the bytes before the place begin some line, and with what stands
@@ -109,9 +138,12 @@ pub fn read_line(text: &[u8]) -> Result<ReadLine, Misread>
             place: LINE_LIMIT + 1,
         });
     }
-    let mut operations = Operations::new();
-    match parts(text, &mut operations) {
-        Ok(parts) => Ok(ReadLine { parts, operations }),
+    let mut cursor = Cursor {
+        rest: text,
+        operations: ArrayVec::new(),
+    };
+    match cursor.line() {
+        Ok(line) => Ok(line),
         Err(e) => Err(Misread {
             fault: e.fault,
             place: text.len() + 1 - e.left,

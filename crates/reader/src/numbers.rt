@@ -1,6 +1,5 @@
-ghost use Rattle.std.specs.Prelude.{◌≡◌, ◌+◌, ◌≤◌, length, IfOk};
-ghost use Rattle.rules.specs.Reading.{is_digit, digit_run, Digits, number_of, constant_at};
-ghost use Rattle.reader.specs.Told.{Reads};
+ghost use Rattle.std.specs.Prelude.{◌≡◌, ◌≤◌, length, drop, IfOk, MatchResult};
+ghost use Rattle.rules.specs.Reading.{got, fails, is_digit, digit_run, Digits, number_of, constant_at};
 
 use crate::failure::Failure;
 use rules::limits::DIGIT_LIMIT;
@@ -9,19 +8,14 @@ use rules::refusal::Fault;
 pub fn is_digit(b: u8) -> bool
     ensures { result ≡ is_digit b }
 {
-    b >= b'0' && b <= b'9'
+    b.is_ascii_digit()
 }
 
 // How many digits the bytes begin with.
 fn digit_run(text: &[u8]) -> usize
     ensures { result ≡ digit_run text.now }
 {
-    for (i, b) in text.iter().enumerate() {
-        if !is_digit(*b) {
-            return i;
-        }
-    }
-    text.len()
+    text.iter().take_while(|b| is_digit(**b)).count()
 }
 
 // The number that digits write.
@@ -30,17 +24,18 @@ fn number(digits: &[u8]) -> u64
     requires digits { Digits digits.now }
     ensures { result ≡ number_of digits.now }
 {
-    let mut number = 0u64;
+    let mut number = 0;
     for d in digits {
-        number = number * 10 + (*d - b'0') as u64;
+        number = number * 10 + u64::from(*d - b'0');
     }
     number
 }
 
-// The whole run of digits that the bytes begin with: at most 14, and no needless leading zero.
-pub fn constant(text: &[u8]) -> Result<(u64, &[u8]), Failure>
-    ensures reads { Reads (constant_at text.now) result }
-    ensures rest { IfOk result (λ p. length p.1.now + digit_run text.now ≡ length text.now) }
+// The whole run of digits that the bytes begin with, at most 14 and without a needless leading zero: its number, and how many
+// digits they are.
+pub fn constant(text: &[u8]) -> Result<(u64, usize), Failure>
+    ensures reads { MatchResult result (λ p. constant_at text.now ≡ got p.0 (drop p.1 text.now)) (λ e. constant_at text.now ≡ fails e.fault e.left) }
+    ensures run { IfOk result (λ p. p.1 ≡ digit_run text.now) }
 {
     let run = digit_run(text);
     if run > DIGIT_LIMIT || run > 1 && text[0] == b'0' {
@@ -49,6 +44,5 @@ pub fn constant(text: &[u8]) -> Result<(u64, &[u8]), Failure>
             left: text.len(),
         });
     }
-    let (digits, rest) = text.split_at(run);
-    Ok((number(digits), rest))
+    Ok((number(&text[..run]), run))
 }

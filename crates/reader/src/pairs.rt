@@ -1,105 +1,122 @@
-ghost use Rattle.std.specs.Prelude.{◌≡◌, ◌+◌, ◌*◌, ◌<◌, ◌≤◌, length, IfOk};
-ghost use Rattle.rules.specs.Reading.{operand_at, pair_at, second_at};
+ghost use Rattle.std.specs.Prelude.{◌≡◌, ◌+◌, ◌≤◌, IfOk, MatchOption};
+ghost use Rattle.rules.specs.Reading.{depth_limit, operand_at, pair_at, second_at};
 ghost use Rattle.rules.specs.Operations.{waiting_after};
-ghost use Rattle.reader.specs.Pairs.{OperandRead, PairRead, SecondRead};
+ghost use Rattle.reader.specs.Pairs.{OperandRead, PairRead, SecondRead, Spare, weight};
 
-use crate::bytes::{byte, sign, start, variable};
+use crate::cursor::{Cursor, start};
 use crate::failure::Failure;
-use crate::numbers::constant;
-use crate::operations::Operations;
 use rules::formula::{Atom, Start};
+use rules::limits::DEPTH_LIMIT;
 use rules::operation::{Operation, Source};
 use rules::refusal::Fault;
 
-// How many results wait once an operand is at hand.
-fn waiting_after(operand: Source, waiting: u8) -> u8
-    requires { waiting < 255 }
-    ensures is { result ≡ waiting_after operand waiting }
-    ensures bound { result ≤ waiting + 1 }
-{
-    match operand {
-        Source::Named(_) => waiting,
-        Source::Temporary(_) => waiting + 1,
+// How many parentheses may still be opened, and how many results wait.
+#[derive(Clone, Copy)]
+pub(crate) struct Depth {
+    room: u8,
+    waiting: u8,
+    ghost nested: { room + waiting ≤ 17 },
+}
+
+impl Depth {
+    // No parenthesis is open and no result waits.
+    pub(crate) fn none() -> Depth
+        ensures room { result.room ≡ depth_limit }
+        ensures waiting { result.waiting ≡ 0 }
+    {
+        Depth {
+            room: DEPTH_LIMIT,
+            waiting: 0,
+        }
+    }
+
+    // One parenthesis deeper, where one more may be opened.
+    fn inside(self) -> Option<Depth>
+        ensures { MatchOption result (self.room ≡ 0) (λ d. (d.room + 1 ≡ self.room) × (d.waiting ≡ self.waiting)) }
+    {
+        let room = self.room.checked_sub(1)?;
+        Some(Depth {
+            room,
+            waiting: self.waiting,
+        })
+    }
+
+    // Once an operand is at hand, whose result may wait.
+    fn after(self, operand: Source) -> Depth
+        requires { self.room + self.waiting ≤ 16 }
+        ensures room { result.room ≡ self.room }
+        ensures waiting { result.waiting ≡ waiting_after operand self.waiting }
+    {
+        match operand {
+            Source::Named(_) => self,
+            Source::Temporary(_) => Depth {
+                room: self.room,
+                waiting: self.waiting + 1,
+            },
+        }
     }
 }
 
-// An operand, where `room` more parentheses may be opened and `waiting` results wait.
-#[cycle(operand_pair_second)]
-pub(crate) fn operand<'a>(
-    text: &'a [u8],
-    room: u8,
-    waiting: u8,
-    out: &mut Operations,
-) -> Result<(Source, &'a [u8]), Failure>
-    requires nested { room + waiting ≤ 17 }
-    requires spare { 4 * out.old.len + length text.now ≤ 78 }
-    ensures reads { OperandRead (operand_at room text.now) waiting out.old result out.new }
-    ensures spent { IfOk result (λ p. 4 * out.new.len + length p.1.now + 1 ≤ 4 * out.old.len + length text.now) }
-{
-    let [head, rest @ ..] = text else {
-        return Err(Failure::at(Fault::ByteOutOfPlace, text));
-    };
-    match start(*head) {
-        Start::Parenthesis => {
-            if room == 0 {
-                return Err(Failure::at(Fault::NestedTooDeep, text));
+impl<'a> Cursor<'a> {
+    // An operand.
+    #[cycle(operand_pair_second)]
+    pub(crate) fn operand(&mut self, depth: Depth) -> Result<Source, Failure>
+        requires { Spare 78 self.old }
+        ensures reads { OperandRead (operand_at depth.room self.old.rest.now) depth.waiting self.old result self.new }
+        ensures spent { IfOk result (λ _. weight self.new + 1 ≤ weight self.old) }
+    {
+        let [head, rest @ ..] = self.rest else {
+            return Err(self.out_of_place());
+        };
+        match start(*head) {
+            Start::Parenthesis => {
+                let Some(inside) = depth.inside() else {
+                    return Err(self.fail(Fault::NestedTooDeep));
+                };
+                self.rest = rest;
+                self.pair(inside)?;
+                self.byte(b')')?;
+                Ok(Source::Temporary(depth.waiting))
             }
-            let inside = pair(rest, room - 1, waiting, out)?;
-            let (_, after) = byte(b')', inside)?;
-            Ok((Source::Temporary(waiting), after))
+            Start::Variable => Ok(Source::Named(Atom::Variable(self.letter(b'a')?))),
+            Start::Pointer => {
+                self.rest = rest;
+                Ok(Source::Named(Atom::Pointed(self.letter(b'a')?)))
+            }
+            Start::Letter => Ok(Source::Named(Atom::Letter(self.letter(b'A')?))),
+            Start::Digit => Ok(Source::Named(Atom::Constant(self.constant()?))),
+            Start::Other => Err(self.out_of_place()),
         }
-        Start::Variable => Ok((Source::Named(Atom::Variable(*head)), rest)),
-        Start::Pointer => {
-            let (v, after) = variable(rest)?;
-            Ok((Source::Named(Atom::Pointed(v)), after))
-        }
-        Start::Letter => Ok((Source::Named(Atom::Letter(*head)), rest)),
-        Start::Digit => {
-            let (n, after) = constant(text)?;
-            Ok((Source::Named(Atom::Constant(n)), after))
-        }
-        Start::Other => Err(Failure::at(Fault::ByteOutOfPlace, text)),
     }
-}
 
-// A pair: an operand, a sign and an operand.
-#[cycle(operand_pair_second)]
-fn pair<'a>(
-    text: &'a [u8],
-    room: u8,
-    waiting: u8,
-    out: &mut Operations,
-) -> Result<&'a [u8], Failure>
-    requires nested { room + waiting ≤ 16 }
-    requires spare { 4 * out.old.len + length text.now ≤ 78 }
-    ensures reads { PairRead (pair_at room text.now) waiting out.old result out.new }
-    ensures spent { IfOk result (λ rest. 4 * out.new.len + length rest.now ≤ 4 * out.old.len + length text.now + 1) }
-{
-    let (left, after) = operand(text, room, waiting, out)?;
-    second(left, after, room, waiting, out)
-}
+    // A pair: an operand, a sign and an operand.
+    #[cycle(operand_pair_second)]
+    fn pair(&mut self, depth: Depth) -> Result<(), Failure>
+        requires nested { depth.room + depth.waiting ≤ 16 }
+        requires spare { Spare 78 self.old }
+        ensures reads { PairRead (pair_at depth.room self.old.rest.now) depth.waiting self.old result self.new }
+        ensures spent { IfOk result (λ _. weight self.new ≤ weight self.old + 1) }
+    {
+        let left = self.operand(depth)?;
+        self.second(left, depth)
+    }
 
-// What follows the left operand of a pair: a sign and the right operand. The pair's own operation comes last.
-#[cycle(operand_pair_second)]
-pub(crate) fn second<'a>(
-    left: Source,
-    text: &'a [u8],
-    room: u8,
-    waiting: u8,
-    out: &mut Operations,
-) -> Result<&'a [u8], Failure>
-    requires nested { room + waiting ≤ 16 }
-    requires spare { 4 * out.old.len + length text.now ≤ 77 }
-    ensures reads { SecondRead (second_at room text.now) left waiting out.old result out.new }
-    ensures spent { IfOk result (λ rest. 4 * out.new.len + length rest.now ≤ 4 * out.old.len + length text.now + 2) }
-{
-    let (sign, more) = sign(text)?;
-    let (right, rest) = operand(more, room, waiting_after(left, waiting), out)?;
-    out.push(Operation {
-        left,
-        sign,
-        right,
-        result: waiting,
-    });
-    Ok(rest)
+    // What follows the left operand of a pair: a sign and the right operand. The pair's own operation comes last.
+    #[cycle(operand_pair_second)]
+    pub(crate) fn second(&mut self, left: Source, depth: Depth) -> Result<(), Failure>
+        requires nested { depth.room + depth.waiting ≤ 16 }
+        requires spare { Spare 77 self.old }
+        ensures reads { SecondRead (second_at depth.room self.old.rest.now) left depth.waiting self.old result self.new }
+        ensures spent { IfOk result (λ _. weight self.new ≤ weight self.old + 2) }
+    {
+        let sign = self.sign()?;
+        let right = self.operand(depth.after(left))?;
+        self.operations.push(Operation {
+            left,
+            sign,
+            right,
+            result: depth.waiting,
+        });
+        Ok(())
+    }
 }

@@ -60,8 +60,12 @@ constant_if false xs = fails BadConstant (length xs)
 abbrev pub constant_at : List ℕ → Read ℕ
 constant_at xs = constant_if (proper xs) xs
 
+-- a letter of the alphabet that begins with a byte
+abbrev pub letter_from : ℕ → List ℕ → Read ℕ
+letter_from a xs = elim (between a (a + 25) (first xs)) [ true ↦ got (first xs) (drop 1 xs) | false ↦ fails ByteOutOfPlace (length xs) ]
+
 abbrev pub variable_at : List ℕ → Read ℕ
-variable_at xs = elim (between 97 122 (first xs)) [ true ↦ got (first xs) (drop 1 xs) | false ↦ fails ByteOutOfPlace (length xs) ]
+variable_at xs = letter_from 97 xs
 
 abbrev pub byte_at : ℕ → List ℕ → Read ℕ
 byte_at b xs = elim (first xs == b) [ true ↦ got b (drop 1 xs) | false ↦ fails ByteOutOfPlace (length xs) ]
@@ -132,7 +136,7 @@ abbrev pub side_at : List ℕ → Read Side
 side_at xs = side_on (first xs == 63) xs
 
 abbrev pub letter_at : List ℕ → Read ℕ
-letter_at xs = elim (between 65 90 (first xs)) [ true ↦ got (first xs) (drop 1 xs) | false ↦ fails ByteOutOfPlace (length xs) ]
+letter_at xs = letter_from 65 xs
 
 -- a line opens with a group letter and a comma
 abbrev pub opening_at : List ℕ → Read ℕ

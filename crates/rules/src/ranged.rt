@@ -22,9 +22,6 @@ pub type Address = Ranged<0, 1_000>;
 // The letter of a group, by its byte.
 pub type Letter = Ranged<65, 26>;
 
-// The letter of a variable, by its byte.
-pub type Variable = Ranged<97, 26>;
-
 impl<const FIRST: u64, const COUNT: u64> Model for Ranged<FIRST, COUNT> {
     ghost use Rattle.std.specs.Prelude.{ℕ, ◌+◌, ◌<◌, ◌≤◌};
 

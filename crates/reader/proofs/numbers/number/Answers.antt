@@ -7,8 +7,8 @@ use Rattle.reader.proofs.numbers.number.Goals as goal
 pub overflow_mul-number : goal.overflow_mul-number
 overflow_mul-number c = omega (arith, ten_fits c.loop-d.number c.loop-d.d-index 0 c.loop-d.invariant.1 (omega arith) (omega arith))
 
-pub overflow_sub-number : goal.overflow_sub-number
-overflow_sub-number c = (c.requires.digits _ c.loop-d-test.true).0
+pub overflow_sub-d : goal.overflow_sub-d
+overflow_sub-d c = (c.requires.digits _ c.loop-d-test.true).0
 
 pub overflow_add-number : goal.overflow_add-number
 overflow_add-number c =
