@@ -67,9 +67,8 @@ fn tape_of(heap: Global, text: &[u8]) -> Result<Result<Vec<u64>, TextRefusal>, A
 // A line for each word: its position from 1 and its fourteen digits.
 fn listing(heap: Global, tape: &[u64]) -> Result<String, AllocError> {
     let mut lines = String::new(heap);
-    for (before, word) in tape.iter().enumerate() {
-        let position = before + 1;
-        lines.push_str(format!(in heap; "{position},{word:014}\n")?.as_str())?;
+    for (position, word) in (1..=tape.len()).zip(tape) {
+        writeln!(lines, "{position},{word:014}")?;
     }
     Ok(lines)
 }
@@ -78,10 +77,7 @@ fn listing(heap: Global, tape: &[u64]) -> Result<String, AllocError> {
 fn refused(heap: Global, report: Report) -> Result<String, AllocError>
     ensures { IfOk result (λ s. string_bytes s ≡ refusal_line report) }
 {
-    let number = report.number;
-    let line = report.line;
-    let place = report.place;
-    format!(in heap; "refused,{number},{line},{place}\n")
+    format!(in heap; "{report}\n")
 }
 
 fn run(rt: &HostRuntime) -> anyhow::Result<()> {
@@ -89,7 +85,7 @@ fn run(rt: &HostRuntime) -> anyhow::Result<()> {
     let text = read_text(heap, &mut rt.stdin())?;
     let answer = match tape_of(heap, &text)? {
         Ok(tape) => listing(heap, &tape)?,
-        Err(refusal) => refused(heap, refusal.report())?,
+        Err(refusal) => refused(heap, Report::from(refusal))?,
     };
     rt.print(answer.as_str())?;
     Ok(())

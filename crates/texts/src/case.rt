@@ -27,7 +27,7 @@ pub struct Case {
 }
 
 impl Part {
-    fn write(&self, heap: Global, text: &mut String) -> Result<(), AllocError> {
+    fn write(&self, text: &mut String) -> Result<(), AllocError> {
         match self {
             Part::Plain(piece) => text.push_str(piece),
             Part::Repeated(piece, times) => {
@@ -43,7 +43,7 @@ impl Part {
                 after,
             } => {
                 for number in *first..=*last {
-                    text.push_str(format!(in heap; "{before}{number}{after}")?.as_str())?;
+                    write!(text, "{before}{number}{after}")?;
                 }
                 Ok(())
             }
@@ -55,7 +55,7 @@ impl Case {
     pub(crate) fn text(&self, heap: Global) -> Result<String, AllocError> {
         let mut text = String::new(heap);
         for part in self.parts {
-            part.write(heap, &mut text)?;
+            part.write(&mut text)?;
         }
         Ok(text)
     }

@@ -13,7 +13,7 @@ mod parentheses;
 
 use crate::case::Case;
 use compiler::compile;
-use rules::refusal::TextRefusal;
+use rules::refusal::Report;
 use std::alloc::{AllocError, Global};
 
 // What the buffer holds before a text is compiled. No text of the table makes this word.
@@ -28,46 +28,26 @@ fn shown_tape(heap: Global, tape: &[u64]) -> Result<String, AllocError> {
     let mut line = format!(in heap; "tape,{length}")?;
     if length <= SHORT {
         for word in tape {
-            line.push_str(format!(in heap; " {word:014}")?.as_str())?;
+            write!(line, " {word:014}")?;
         }
     }
     Ok(line)
 }
 
-fn shown_refusal(heap: Global, refusal: TextRefusal) -> Result<String, AllocError> {
-    let report = refusal.report();
-    let number = report.number;
-    let line = report.line;
-    let place = report.place;
-    format!(in heap; "refused,{number},{line},{place}")
-}
-
-// Whether a part of the buffer that should be as it was is not.
-fn is_touched(words: &[u64]) -> bool {
-    for word in words {
-        if *word != UNTOUCHED {
-            return true;
-        }
-    }
-    false
-}
-
 // What a text compiles to, and `touched` where the buffer holds anything else than the tape and what was there.
 fn outcome(heap: Global, text: &[u8], room: usize) -> Result<String, AllocError> {
     let mut buffer = vec![in heap; UNTOUCHED; room]?;
-    let length = match compile(text, &mut buffer) {
-        Ok(length) => length.min(room),
-        Err(refusal) => {
-            let mut line = shown_refusal(heap, refusal)?;
-            if is_touched(&buffer) {
-                line.push_str(" touched")?;
-            }
-            return Ok(line);
+    let (mut line, rest) = match compile(text, &mut buffer) {
+        Ok(length) => {
+            let (tape, beyond) = buffer.split_at(length.min(room));
+            (shown_tape(heap, tape)?, beyond)
         }
+        Err(refusal) => (
+            format!(in heap; "{}", Report::from(refusal))?,
+            buffer.as_slice(),
+        ),
     };
-    let (tape, beyond) = buffer.split_at(length);
-    let mut line = shown_tape(heap, tape)?;
-    if is_touched(beyond) {
+    if rest.iter().any(|word| *word != UNTOUCHED) {
         line.push_str(" touched")?;
     }
     Ok(line)
@@ -84,17 +64,19 @@ fn run_all(rt: &HostRuntime, cases: &[Case]) -> anyhow::Result<()> {
     Ok(())
 }
 
-fn run(rt: &HostRuntime) -> anyhow::Result<()> {
-    run_all(rt, good::cases())?;
-    run_all(rt, lengths::cases())?;
-    run_all(rt, bytes::cases())?;
-    run_all(rt, constants::cases())?;
-    run_all(rt, parentheses::cases())?;
-    run_all(rt, groups::cases())?;
-    run_all(rt, mentions::cases())?;
-    run_all(rt, limits::cases())
-}
-
 fn main(rt: HostRuntime) -> anyhow::Result<()> {
-    run(&rt)
+    let tables: [&[Case]; 8] = [
+        &good::CASES,
+        &lengths::CASES,
+        &bytes::CASES,
+        &constants::CASES,
+        &parentheses::CASES,
+        &groups::CASES,
+        &mentions::CASES,
+        &limits::CASES,
+    ];
+    for cases in tables {
+        run_all(&rt, cases)?;
+    }
+    Ok(())
 }
