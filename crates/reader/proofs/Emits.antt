@@ -18,11 +18,5 @@ adds h h₁ h₂ left b r s w v e₁ e₂ eb ev = rw (e₂, e₁, eb, ev) (simp 
 pub emits : (h h₁ h₂ : List Operation) (l r : Operand) (s : Sign) (left : Source) (w : ℕ) → h₁ ≡ h ++ operations l w → left ≡ source l w → h₂ ≡ h₁ ++ added left s r w → h₂ ≡ h ++ operations (pair l s r) w
 emits h h₁ h₂ l r s left w e₁ e₂ e₃ = rw (e₃, e₁, e₂) (simp append_assoc)
 
--- after a left operand, what reads the sign and the right operand has read a pair
-pub second_pair : (n w : ℕ) (xs : List ℕ) (before mid after : Cursor) (l : Operand) (left : Source) (r : Result (Unit {0}) Failure) → operand_at n xs ≡ got l mid.rest.now → left ≡ source l w → mid.operations.items ≡ before.operations.items ++ operations l w → SecondRead (second_at n mid.rest.now) left w mid r after → PairRead (pair_at n xs) w before r after
-second_pair n w xs before mid after l left (Ok x) e₁ e₂ e₃ g =
-    (pair l g.0.0 g.0.1, rw (e₁, g.1), refl, emits before.operations.items mid.operations.items after.operations.items l g.0.1 g.0.0 left w e₃ e₂ g.2)
-second_pair n w xs before mid after l left (Err e) e₁ e₂ e₃ g = rw (e₁, g)
-
 pub second_is : (n m : ℕ) (xs ys zs : List ℕ) (s : Sign) (r : Operand) → sign_at xs ≡ got s ys → m ≡ n → operand_at m ys ≡ got r zs → second_at n xs ≡ got (s, r) zs
 second_is n m xs ys zs s r e₁ e e₂ = let e₃ : operand_at n ys ≡ got r zs = rw e at e₂ in rw (e₁, e₃)

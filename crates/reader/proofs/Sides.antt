@@ -56,6 +56,6 @@ side_pair t xs ys zs o n w m v q p h₀ h₁ h₂ h n' w' m' v' e c l l' r z₀ 
     let b : h₂ ≡ h₁ ++ added o q.0 q.1 0 = rw v' at z₂ in
     (both t q.0 q.1, side_both t xs ys zs o 0 q h e₁ c₁ (sym l' ∙ l) r₁, ap (λ k. Pair (record { items = k })) (emits [] h₁ h₂ t q.1 q.0 o 0 a c₁ b))
 
-pub line_is : (xs ys zs us vs : List ℕ) (g : ℕ) (z : Side) (d : read.Side) (u : Target) → opening_at xs ≡ got g ys → side_at ys ≡ got z zs → d ≡ side_of z → byte_at 44 zs ≡ got 44 us → target_at us ≡ got u vs → length vs ≡ 0 → (l : Line) × (line_at xs ≡ got l []) × ◌≡◌ {A = ReadLine} (record { group = g; side = d; target = u }) (line_of l)
-line_is xs ys zs us [] g z d u e₁ e₂ e e₃ e₄ h = (record { group = g; side = z; target = u }, rw (e₁, e₂, e₃, e₄) refl, ap (λ k. record { group = g; side = k; target = u }) e)
-line_is xs ys zs us (v ∷ vs) g z d u e₁ e₂ e e₃ e₄ h = absurd (omega arith)
+pub line_is : (xs ys zs us vs : List ℕ) (g b : ℕ) (z : Side) (d : read.Side) (u : Target) → opening_at xs ≡ got g ys → side_at ys ≡ got z zs → d ≡ side_of z → byte_at 44 zs ≡ got b us → target_at us ≡ got u vs → length vs ≡ 0 → (l : Line) × (line_at xs ≡ got l []) × ◌≡◌ {A = ReadLine} (record { group = g; side = d; target = u }) (line_of l)
+line_is xs ys zs us [] g b z d u e₁ e₂ e e₃ e₄ h = (record { group = g; side = z; target = u }, rw (e₁, e₂, e₃, e₄) refl, ap (λ k. record { group = g; side = k; target = u }) e)
+line_is xs ys zs us (v ∷ vs) g b z d u e₁ e₂ e e₃ e₄ h = absurd (omega arith)

@@ -12,6 +12,10 @@ use Rattle.reader.specs.Lines.{line_of}
 abbrev pub Reads : {X : Type 0} → Read X → Result X Failure → List ℕ → Type 0
 Reads x r rest = MatchResult r (λ v. x ≡ got v rest) (λ e. x ≡ fails e.fault e.left)
 
+-- the value, and one byte was used for it
+abbrev pub ReadsOne : {X : Type 0} → Read X → Result X Failure → List ℕ → List ℕ → Type 0
+ReadsOne x r before rest = MatchResult r (λ v. (x ≡ got v rest) × (length rest + 1 ≡ length before)) (λ e. x ≡ fails e.fault e.left)
+
 -- of a line of so many bytes: what was read, or the fault and its place from 1
 abbrev pub Told : ℕ → Read Line → Result ReadLine Misread → Type 0
 Told n x r = MatchResult r (λ k. (l : Line) × (x ≡ got l []) × (k ≡ line_of l)) (λ e. (left : ℕ) × (x ≡ fails e.fault left) × (e.place ≡ n + 1 - left))

@@ -1,25 +1,19 @@
-ghost use Rattle.std.specs.Prelude.{◌≡◌, ◌+◌, ◌<◌, length, IfOk, MatchResult};
+ghost use Rattle.std.specs.Prelude.{◌≡◌, ◌+◌, ◌<◌, length, IfOk};
 ghost use Rattle.rules.specs.declared.refusal.Fault.TheVariants as faults;
-ghost use Rattle.rules.specs.Reading.{got, fails, digit_run, start as start_of, byte_at, constant_at, letter_from, sign_at};
-ghost use Rattle.reader.specs.Told.{Reads};
+ghost use Rattle.rules.specs.Reading.{digit_run, start as start_of, byte_at, constant_at, letter_from, sign_at};
+ghost use Rattle.reader.specs.Told.{Reads, ReadsOne};
 
 use crate::failure::Failure;
 use crate::numbers::constant;
-use arrayvec::ArrayVec;
 use rules::formula::Start;
-use rules::operation::Operation;
 use rules::refusal::Fault;
 use rules::sign::Sign;
 use rules::table::sign_of;
 
-// A line of 80 bytes has at most 19 operations.
-pub const CAPACITY: usize = 19;
-
-// What is still to be read of a line, and the operations of what was read.
+// What is still to be read of a line.
 #[derive(Drop)]
 pub(crate) struct Cursor<'a> {
     pub(crate) rest: &'a [u8],
-    pub(crate) operations: ArrayVec<Operation, CAPACITY>,
 }
 
 // What a byte can begin.
@@ -57,16 +51,14 @@ impl<'a> Cursor<'a> {
     }
 
     // One byte that must stand first.
-    pub(crate) fn byte(&mut self, b: u8) -> Result<(), Failure>
+    pub(crate) fn byte(&mut self, b: u8) -> Result<u8, Failure>
         requires { 0 < b }
-        ensures reads { MatchResult result (λ _. byte_at b self.old.rest.now ≡ got b self.new.rest.now) (λ e. byte_at b self.old.rest.now ≡ fails e.fault e.left) }
-        ensures one { IfOk result (λ _. length self.new.rest.now + 1 ≡ length self.old.rest.now) }
-        ensures operations { self.new.operations ≡ self.old.operations }
+        ensures { ReadsOne (byte_at b self.old.rest.now) result self.old.rest.now self.new.rest.now }
     {
         match self.rest {
             [c, rest @ ..] if *c == b => {
                 self.rest = rest;
-                Ok(())
+                Ok(b)
             }
             _ => Err(self.out_of_place()),
         }
@@ -75,9 +67,7 @@ impl<'a> Cursor<'a> {
     // A letter of the alphabet that begins with `first`.
     pub(crate) fn letter(&mut self, first: u8) -> Result<u8, Failure>
         requires { (0 < first) × (first < 200) }
-        ensures reads { Reads (letter_from first self.old.rest.now) result self.new.rest.now }
-        ensures one { IfOk result (λ _. length self.new.rest.now + 1 ≡ length self.old.rest.now) }
-        ensures operations { self.new.operations ≡ self.old.operations }
+        ensures { ReadsOne (letter_from first self.old.rest.now) result self.old.rest.now self.new.rest.now }
     {
         match self.rest {
             [letter, rest @ ..] if (first..=first + 25).contains(letter) => {
@@ -90,9 +80,7 @@ impl<'a> Cursor<'a> {
 
     // A sign, by the table of codes.
     pub(crate) fn sign(&mut self) -> Result<Sign, Failure>
-        ensures reads { Reads (sign_at self.old.rest.now) result self.new.rest.now }
-        ensures one { IfOk result (λ _. length self.new.rest.now + 1 ≡ length self.old.rest.now) }
-        ensures operations { self.new.operations ≡ self.old.operations }
+        ensures { ReadsOne (sign_at self.old.rest.now) result self.old.rest.now self.new.rest.now }
     {
         let [head, rest @ ..] = self.rest else {
             return Err(self.out_of_place());
@@ -110,7 +98,6 @@ impl<'a> Cursor<'a> {
     pub(crate) fn constant(&mut self) -> Result<u64, Failure>
         ensures reads { Reads (constant_at self.old.rest.now) result self.new.rest.now }
         ensures run { IfOk result (λ _. length self.new.rest.now + digit_run self.old.rest.now ≡ length self.old.rest.now) }
-        ensures operations { self.new.operations ≡ self.old.operations }
     {
         let (number, digits) = constant(self.rest)?;
         self.rest = &self.rest[digits..];

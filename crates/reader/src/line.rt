@@ -3,9 +3,9 @@ ghost use Rattle.rules.specs.Reading.{opening_at, side_at, target_at, line_at, l
 ghost use Rattle.reader.specs.Told.{Reads, Told, First};
 ghost use Rattle.reader.specs.Sides.{alone as alone_of, SideRead, LineRead};
 
-use crate::cursor::{CAPACITY, Cursor, start};
+use crate::cursor::{Cursor, start};
 use crate::failure::{Failure, Misread};
-use crate::pairs::Depth;
+use crate::pairs::{CAPACITY, Depth, LineReader};
 use arrayvec::ArrayVec;
 use rules::formula::{Atom, Start, Target};
 use rules::limits::LINE_LIMIT;
@@ -42,8 +42,7 @@ fn alone(left: Source, after: &[u8]) -> Option<Atom>
 impl<'a> Cursor<'a> {
     // A line opens with a group letter and a comma.
     fn opening(&mut self) -> Result<Letter, Failure>
-        ensures reads { Reads (opening_at self.old.rest.now) result self.new.rest.now }
-        ensures operations { self.new.operations ≡ self.old.operations }
+        ensures { Reads (opening_at self.old.rest.now) result self.new.rest.now }
     {
         let line = self.rest;
         let [letter, after @ ..] = line else {
@@ -60,24 +59,6 @@ impl<'a> Cursor<'a> {
             }
             _ => Err(self.out_of_place()),
         }
-    }
-
-    // A reading, an atom that stands alone, or a pair.
-    fn side(&mut self) -> Result<Side, Failure>
-        requires bytes { length self.old.rest.now ≤ 78 }
-        requires operations { self.old.operations.items ≡ [] }
-        ensures { SideRead (side_at self.old.rest.now) result self.new.rest.now }
-    {
-        if let [b'?', rest @ ..] = self.rest {
-            self.rest = rest;
-            return Ok(Side::Reading);
-        }
-        let left = self.operand(Depth::none())?;
-        if let Some(atom) = alone(left, self.rest) {
-            return Ok(Side::Single(atom));
-        }
-        self.second(left, Depth::none())?;
-        Ok(Side::Pair(self.operations.take()))
     }
 
     // Where the result goes: a variable, a pointed cell, the label or the place register.
@@ -104,19 +85,39 @@ impl<'a> Cursor<'a> {
             _ => Err(self.out_of_place()),
         }
     }
+}
+
+impl<'a> LineReader<'a> {
+    // A reading, an atom that stands alone, or a pair.
+    fn side(&mut self) -> Result<Side, Failure>
+        requires bytes { length self.old.cursor.rest.now ≤ 78 }
+        requires operations { self.old.operations.items ≡ [] }
+        ensures { SideRead (side_at self.old.cursor.rest.now) result self.new.cursor.rest.now }
+    {
+        if let [b'?', rest @ ..] = self.cursor.rest {
+            self.cursor.rest = rest;
+            return Ok(Side::Reading);
+        }
+        let left = self.operand(Depth::none())?;
+        if let Some(atom) = alone(left, self.cursor.rest) {
+            return Ok(Side::Single(atom));
+        }
+        self.second(left, Depth::none())?;
+        Ok(Side::Pair(self.operations.take()))
+    }
 
     // Opening, side, comma and target, and nothing more.
     fn line(&mut self) -> Result<ReadLine, Failure>
-        requires bytes { length self.old.rest.now ≤ 80 }
+        requires bytes { length self.old.cursor.rest.now ≤ 80 }
         requires operations { self.old.operations.items ≡ [] }
-        ensures { LineRead (line_at self.old.rest.now) result }
+        ensures { LineRead (line_at self.old.cursor.rest.now) result }
     {
-        let group = self.opening()?;
+        let group = self.cursor.opening()?;
         let side = self.side()?;
-        self.byte(b',')?;
-        let target = self.target()?;
-        if !self.rest.is_empty() {
-            return Err(self.out_of_place());
+        self.cursor.byte(b',')?;
+        let target = self.cursor.target()?;
+        if !self.cursor.rest.is_empty() {
+            return Err(self.cursor.out_of_place());
         }
         Ok(ReadLine {
             group,
@@ -138,11 +139,11 @@ pub fn read_line(text: &[u8]) -> Result<ReadLine, Misread>
             place: LINE_LIMIT + 1,
         });
     }
-    let mut cursor = Cursor {
-        rest: text,
+    let mut reader = LineReader {
+        cursor: Cursor { rest: text },
         operations: ArrayVec::new(),
     };
-    match cursor.line() {
+    match reader.line() {
         Ok(line) => Ok(line),
         Err(e) => Err(Misread {
             fault: e.fault,

@@ -5,10 +5,21 @@ ghost use Rattle.reader.specs.Pairs.{OperandRead, PairRead, SecondRead, Spare, w
 
 use crate::cursor::{Cursor, start};
 use crate::failure::Failure;
+use arrayvec::ArrayVec;
 use rules::formula::{Atom, Start};
 use rules::limits::DEPTH_LIMIT;
 use rules::operation::{Operation, Source};
 use rules::refusal::Fault;
+
+// A line of 80 bytes has at most 19 operations.
+pub const CAPACITY: usize = 19;
+
+// What is still to be read of a line, and the operations of what was read.
+#[derive(Drop)]
+pub(crate) struct LineReader<'a> {
+    pub(crate) cursor: Cursor<'a>,
+    pub(crate) operations: ArrayVec<Operation, CAPACITY>,
+}
 
 // How many parentheses may still be opened, and how many results wait.
 #[derive(Clone, Copy)]
@@ -57,35 +68,35 @@ impl Depth {
     }
 }
 
-impl<'a> Cursor<'a> {
+impl<'a> LineReader<'a> {
     // An operand.
     #[cycle(operand_pair_second)]
     pub(crate) fn operand(&mut self, depth: Depth) -> Result<Source, Failure>
         requires { Spare 78 self.old }
-        ensures reads { OperandRead (operand_at depth.room self.old.rest.now) depth.waiting self.old result self.new }
+        ensures reads { OperandRead (operand_at depth.room self.old.cursor.rest.now) depth.waiting self.old result self.new }
         ensures spent { IfOk result (λ _. weight self.new + 1 ≤ weight self.old) }
     {
-        let [head, rest @ ..] = self.rest else {
-            return Err(self.out_of_place());
+        let [head, rest @ ..] = self.cursor.rest else {
+            return Err(self.cursor.out_of_place());
         };
         match start(*head) {
             Start::Parenthesis => {
                 let Some(inside) = depth.inside() else {
-                    return Err(self.fail(Fault::NestedTooDeep));
+                    return Err(self.cursor.fail(Fault::NestedTooDeep));
                 };
-                self.rest = rest;
+                self.cursor.rest = rest;
                 self.pair(inside)?;
-                self.byte(b')')?;
+                self.cursor.byte(b')')?;
                 Ok(Source::Temporary(depth.waiting))
             }
-            Start::Variable => Ok(Source::Named(Atom::Variable(self.letter(b'a')?))),
+            Start::Variable => Ok(Source::Named(Atom::Variable(self.cursor.letter(b'a')?))),
             Start::Pointer => {
-                self.rest = rest;
-                Ok(Source::Named(Atom::Pointed(self.letter(b'a')?)))
+                self.cursor.rest = rest;
+                Ok(Source::Named(Atom::Pointed(self.cursor.letter(b'a')?)))
             }
-            Start::Letter => Ok(Source::Named(Atom::Letter(self.letter(b'A')?))),
-            Start::Digit => Ok(Source::Named(Atom::Constant(self.constant()?))),
-            Start::Other => Err(self.out_of_place()),
+            Start::Letter => Ok(Source::Named(Atom::Letter(self.cursor.letter(b'A')?))),
+            Start::Digit => Ok(Source::Named(Atom::Constant(self.cursor.constant()?))),
+            Start::Other => Err(self.cursor.out_of_place()),
         }
     }
 
@@ -94,7 +105,7 @@ impl<'a> Cursor<'a> {
     fn pair(&mut self, depth: Depth) -> Result<(), Failure>
         requires nested { depth.room + depth.waiting ≤ 16 }
         requires spare { Spare 78 self.old }
-        ensures reads { PairRead (pair_at depth.room self.old.rest.now) depth.waiting self.old result self.new }
+        ensures reads { PairRead (pair_at depth.room self.old.cursor.rest.now) depth.waiting self.old result self.new }
         ensures spent { IfOk result (λ _. weight self.new ≤ weight self.old + 1) }
     {
         let left = self.operand(depth)?;
@@ -106,10 +117,10 @@ impl<'a> Cursor<'a> {
     pub(crate) fn second(&mut self, left: Source, depth: Depth) -> Result<(), Failure>
         requires nested { depth.room + depth.waiting ≤ 16 }
         requires spare { Spare 77 self.old }
-        ensures reads { SecondRead (second_at depth.room self.old.rest.now) left depth.waiting self.old result self.new }
+        ensures reads { SecondRead (second_at depth.room self.old.cursor.rest.now) left depth.waiting self.old result self.new }
         ensures spent { IfOk result (λ _. weight self.new ≤ weight self.old + 2) }
     {
-        let sign = self.sign()?;
+        let sign = self.cursor.sign()?;
         let right = self.operand(depth.after(left))?;
         self.operations.push(Operation {
             left,

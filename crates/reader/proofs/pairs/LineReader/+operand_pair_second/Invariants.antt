@@ -1,5 +1,5 @@
 use Rattle.std.proofs.Common.{◌+◌, ◌*◌}
-use Rattle.reader.proofs.cursor.Cursor.+operand_pair_second.Given as goal
+use Rattle.reader.proofs.pairs.LineReader.+operand_pair_second.Given as goal
 
 -- A parenthesis takes one from the room; a pair calls for its parts with the same room, so each of the three has a step of its own within it.
 abbrev pub decreases-operand : goal.decreases-operand
