@@ -56,17 +56,12 @@ row_sound bs count ns e counted below =
     let w = row_written bs ns e below in
     ((counted ∙ ap length (sym w.1), w.0), w.1)
 
--- There is room for one number more of at most k digits where there are k + 1 bytes for each.
-pub line_room : (N k : ℕ) (ns : List ℕ) (n : ℕ) → 0 < k → 10 ^ k ≤ 2 ^ 64 → ((i : ℕ) → get_or ns i 0 < 10 ^ k) → n < 10 ^ k → (k + 1) * (length ns + 1) ≤ N → length (line_of (ns ++ (n ∷ []))) ≤ N
-line_room N k ns n some fits below small room =
-    let l = line_length k (ns ++ (n ∷ [])) some fits (each_push (λ m. m < 10 ^ k) ns n (omega arith) small below) in
+-- One number more finds room, where the line has k + 1 bytes for each number of at most k digits that it may hold.
+pub line_room : (N k limit bound : ℕ) (ns : List ℕ) (n : ℕ) → 0 < k → 10 ^ k ≤ 2 ^ 64 → bound ≤ 10 ^ k → (k + 1) * limit ≤ N → ((i : ℕ) → get_or ns i 0 < bound) → n < bound → length ns < limit → length (line_of (ns ++ (n ∷ []))) ≤ N
+line_room N k limit bound ns n some fits high room below small few =
+    let each = each_push (λ m. m < 10 ^ k) ns n (omega arith) (omega arith) (λ i. omega (arith, below i)) in
+    let l = line_length k (ns ++ (n ∷ [])) some fits each in
     let e = ap (λ x. (k + 1) * x) (length_push ns n) in
-    omega arith
-
--- A push is taken, and keeps limit and bound, where the line has k + 1 bytes for each number that it may hold.
-pub push_taken : (N k limit bound : ℕ) (ns : List ℕ) (n : ℕ) → 0 < k → 10 ^ k ≤ 2 ^ 64 → bound ≤ 10 ^ k → (k + 1) * limit ≤ N → ((i : ℕ) → get_or ns i 0 < bound) → n < bound → length ns < limit → length (line_of (ns ++ (n ∷ []))) ≤ N
-push_taken N k limit bound ns n some fits high room below small few =
-    let each : (i : ℕ) → get_or ns i 0 < 10 ^ k = (λ i. omega (arith, below i)) in
     let more : length ns + 1 ≤ limit = omega arith in
     let wide = mul-le-mul_left (k + 1) more in
-    line_room N k ns n some fits each (omega arith) (omega arith)
+    omega arith

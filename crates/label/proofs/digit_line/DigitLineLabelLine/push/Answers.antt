@@ -1,5 +1,5 @@
 use Rattle.std.proofs.Common.{arith, rules}
-use Rattle.digits.proofs.Rows.{push_taken}
+use Rattle.digits.proofs.Rows.{line_room}
 use Rattle.rules.specs.Labels.{label_limit}
 use Rattle.label.proofs.digit_line.DigitLineLabelLine.push.Goals as goal
 
@@ -8,5 +8,5 @@ pub returns : goal.returns
 returns c =
     let line = c.args.self.now in
     let below = line.sound.1 in
-    let room = push_taken 192 3 label_limit 256 line.line c.args.code (omega arith) (omega arith) (omega arith) (omega arith) (λ i. omega (arith, below i)) (omega arith) (omega arith) in
+    let room = line_room 192 3 label_limit 256 line.line c.args.code (omega arith) (omega arith) (omega arith) (omega arith) (λ i. omega (arith, below i)) (omega arith) (omega arith) in
     search rules

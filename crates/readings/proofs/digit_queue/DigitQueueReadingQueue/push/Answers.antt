@@ -1,5 +1,5 @@
 use Rattle.std.proofs.Common.{arith, rules}
-use Rattle.digits.proofs.Rows.{push_taken}
+use Rattle.digits.proofs.Rows.{line_room}
 use Rattle.rules.specs.Queues.{queue_limit}
 use Rattle.rules.specs.Stores.{number_limit}
 use Rattle.readings.proofs.digit_queue.DigitQueueReadingQueue.push.Goals as goal
@@ -8,5 +8,5 @@ use Rattle.readings.proofs.digit_queue.DigitQueueReadingQueue.push.Goals as goal
 pub returns : goal.returns
 returns c =
     let q = c.args.self.now in
-    let room = push_taken 240 14 queue_limit number_limit q.line c.args.number (omega arith) (omega arith) (omega arith) (omega arith) q.sound.1 (omega (arith, c.get.ensures.below)) (omega arith) in
+    let room = line_room 240 14 queue_limit number_limit q.line c.args.number (omega arith) (omega arith) (omega arith) (omega arith) q.sound.1 (omega (arith, c.get.ensures.below)) (omega arith) in
     search rules
