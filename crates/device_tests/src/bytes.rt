@@ -1,4 +1,4 @@
-use digits::line::NumberLine;
+use digits::line::{NoRoom, NumberLine};
 use label::digit_line::DigitLine;
 use label::label_line::LabelLine;
 use readings::digit_queue::DigitQueue;
@@ -52,21 +52,21 @@ fn label(rt: HostRuntime) {
 #[test]
 fn line(rt: HostRuntime) {
     let mut line: NumberLine<6> = NumberLine::new();
-    assert!(rt; !line.push(123_456));
-    assert!(rt; line.push(115));
-    assert!(rt; line.push(7));
-    assert!(rt; !line.push(0));
+    assert_eq!(rt; line.push(123_456), Err(NoRoom));
+    assert_eq!(rt; line.push(115), Ok(()));
+    assert_eq!(rt; line.push(7), Ok(()));
+    assert_eq!(rt; line.push(0), Err(NoRoom));
     assert_eq!(rt; line.as_bytes(), b"115,7,".as_slice());
     assert_eq!(rt; line.count(), 2);
     assert_eq!(rt; line.get(0), Some(115));
     assert_eq!(rt; line.get(1), Some(7));
     assert_eq!(rt; line.get(2), None);
     line.drop_first();
-    assert!(rt; line.push(123));
+    assert_eq!(rt; line.push(123), Ok(()));
     assert_eq!(rt; line.as_bytes(), b"7,123,".as_slice());
     line.clear();
     line.drop_first();
     assert_eq!(rt; line.count(), 0);
-    assert!(rt; line.push(12_345));
+    assert_eq!(rt; line.push(12_345), Ok(()));
     assert_eq!(rt; line.as_bytes(), b"12345,".as_slice());
 }

@@ -1,68 +1,69 @@
 -- What a line holds after a number is put at its end, and after its first is cut off.
-use Rattle.std.proofs.Common.{◌≡◌, ℕ, ◌+◌, ◌-◌, ◌^◌, ◌<◌, ◌≤◌, List, [], ◌∷◌, ◌++◌, length, get_or, take, drop, Some, None, decimal, Option, sym, refl, ap, ◌∙◌, arith}
-use Rattle.std.proofs.lemmas.List.{length-append, length_push, length-drop, length-take-le}
+use Rattle.std.proofs.Common.{◌≡◌, ℕ, ◌+◌, ◌-◌, ◌^◌, ◌<◌, List, [], ◌∷◌, ◌++◌, length, drop, Some, None, decimal, position, Option, sym, refl, ap, ◌∙◌, eqb, arith}
+use Rattle.std.specs.List.{slice_get, slice_split}
+use Rattle.std.proofs.lemmas.List.{length-append, length_push, length-drop}
+use Rattle.std.proofs.lemmas.Bool.{lt-ltb}
 use Rattle.rules.proofs.Each.{each_drop, each_push}
-use Rattle.digits.specs.Text.{line_of, numbers_in, Below, WellWritten, Sound}
-use Rattle.digits.specs.First.{first_sized}
-use Rattle.digits.specs.declared.text.First.{First}
-use Rattle.digits.proofs.Rows.{numbers_line, line_behind, line_push, line_least}
+use Rattle.digits.specs.Text.{line_of, numbers_in, Below, Sound}
+use Rattle.digits.proofs.Rows.{line_behind, line_push, line_least, row_sound}
+use Rattle.digits.proofs.Splits.{comma_at, read_part, no_part}
 
--- bytes that are the line of a row hold that row
-pub row_written : (bs ns : List ℕ) → bs ≡ line_of ns → Below (2 ^ 64) ns → WellWritten bs × (numbers_in bs ≡ ns)
-row_written bs ns e below =
-    let r : numbers_in bs ≡ ns = ap numbers_in e ∙ numbers_line ns below in
-    ((e ∙ ap line_of (sym r), λ i. rw r (below i)), r)
-
-pub row_sound : (N : ℕ) (bytes : List ℕ) (len count : ℕ) (ns : List ℕ) → length bytes ≡ N → len ≤ N → count ≡ length ns → take len bytes ≡ line_of ns → Below (2 ^ 64) ns → Sound N bytes len count × (numbers_in (take len bytes) ≡ ns)
-row_sound N bytes len count ns all room counted e below =
-    let w = row_written (take len bytes) ns e below in
-    ((all, room, counted ∙ ap length (sym w.1), w.0), w.1)
-
--- where there is a first number, its bytes are there too, and those behind it are the other numbers'
-pub first_parts : (ns bs : List ℕ) (first : First) → bs ≡ line_of ns → Some first ≡ first_sized ns → (0 < length ns) × (first.number ≡ get_or ns 0 0) × (first.size ≤ length bs) × (drop first.size bs ≡ line_of (drop 1 ns))
-first_parts [] bs first e is = absurd (let z : ◌≡◌ {A = ℕ} 0 1 = cc in omega arith)
-first_parts (n ∷ ns) bs first e is =
-    let f : first ≡ record { number = n; size = length (decimal n) + 1 } = cc in
-    let number = ap (λ x. x.number) f in
-    let size = ap (λ x. x.size) f in
-    let l = ap length e ∙ length-append (decimal n) (44 ∷ line_of ns) in
-    (omega arith, number, omega arith, ap (λ k. drop k bs) size ∙ ap (drop (length (decimal n) + 1)) e ∙ line_behind n ns)
-
-pub first_none : (ns : List ℕ) → None ≡ first_sized ns → length ns ≡ 0
-first_none [] is = refl
-first_none (n ∷ ns) is = absurd (let z : ◌≡◌ {A = ℕ} 0 1 = cc in omega arith)
-
--- the bytes that a line lends have the first number that it holds
-pub first_held : (ns lent : List ℕ) (first : Option First) → lent ≡ line_of ns → Below (2 ^ 64) ns → first ≡ first_sized (numbers_in lent) → first ≡ first_sized ns
-first_held ns lent first e below is = is ∙ ap first_sized (row_written lent ns e below).1
-
--- How long a line is with one number more, and that its count of numbers can rise.
-pub push_length : (N : ℕ) (bytes : List ℕ) (len count n : ℕ) → Sound N bytes len count → (length (line_of (numbers_in (take len bytes) ++ (n ∷ []))) ≡ len + length (decimal n) + 1) × (count ≤ len)
-push_length N bytes len count n ok =
-    let ns : List ℕ = numbers_in (take len bytes) in
-    let all = length-take-le len bytes (omega (arith, ok.0, ok.1)) in
-    let line = ap length ok.3.0 in
+-- the line of one number more is longer by its digits and comma, and the count of numbers can rise
+pub push_length : (bs text : List ℕ) (count n : ℕ) → Sound bs count → text ≡ decimal n ++ (44 ∷ []) → (length (line_of (numbers_in bs ++ (n ∷ []))) ≡ length bs + length text) × (count < length bs + length text)
+push_length bs text count n ok e =
+    let ns : List ℕ = numbers_in bs in
+    let line = ap length ok.1.0 in
     let more = ap length (line_push ns n) ∙ length-append (line_of ns) (decimal n ++ (44 ∷ [])) in
-    let tail = length_push (decimal n) 44 in
-    let least = line_least ns ok.3.1 in
-    (omega arith, omega (arith, ok.2))
+    let tail = ap length e in
+    let some = length_push (decimal n) 44 in
+    let least = line_least ns ok.1.1 in
+    (omega arith, omega (arith, ok.0))
 
-pub push_held : (N : ℕ) (bytes after : List ℕ) (len count n end : ℕ) → Sound N bytes len count → n < 2 ^ 64 → length after ≡ N → end ≤ N → take end after ≡ take len bytes ++ (decimal n ++ (44 ∷ [])) → Sound N after end (count + 1) × (numbers_in (take end after) ≡ numbers_in (take len bytes) ++ (n ∷ []))
-push_held N bytes after len count n end ok small whole room e =
-    let ns : List ℕ = numbers_in (take len bytes) in
-    let line = e ∙ ap (λ bs. bs ++ (decimal n ++ (44 ∷ []))) ok.3.0 ∙ sym (line_push ns n) in
-    let counted = ap (λ k. k + 1) ok.2 ∙ sym (length_push ns n) in
-    row_sound N after end (count + 1) (ns ++ (n ∷ [])) whole room counted line (each_push (λ m. m < 2 ^ 64) ns n (omega arith) small ok.3.1)
+pub push_held : (bs text : List ℕ) (count n : ℕ) → Sound bs count → n < 2 ^ 64 → text ≡ decimal n ++ (44 ∷ []) → Sound (bs ++ text) (count + 1) × (numbers_in (bs ++ text) ≡ numbers_in bs ++ (n ∷ []))
+push_held bs text count n ok small e =
+    let ns : List ℕ = numbers_in bs in
+    let line = ap (λ t. bs ++ t) e ∙ ap (λ b. b ++ (decimal n ++ (44 ∷ []))) ok.1.0 ∙ sym (line_push ns n) in
+    let counted = ap (λ k. k + 1) ok.0 ∙ sym (length_push ns n) in
+    row_sound (bs ++ text) (count + 1) (ns ++ (n ∷ [])) line counted (each_push (λ m. m < 2 ^ 64) ns n (omega arith) small ok.1.1)
 
-pub drop_fits : (N : ℕ) (bytes : List ℕ) (len count : ℕ) (first : First) → Sound N bytes len count → Some first ≡ first_sized (numbers_in (take len bytes)) → (0 < count) × (first.size ≤ len)
-drop_fits N bytes len count first ok is =
-    let p = first_parts _ (take len bytes) first ok.3.0 is in
-    let all = length-take-le len bytes (omega (arith, ok.0, ok.1)) in
-    (omega (arith, p.0, ok.2), omega (arith, p.2))
+-- what a line's parts say of its numbers
+pub read_held : (bs text : List ℕ) (count i : ℕ) (part : List ℕ) (r : Option ℕ) → Sound bs count → text ≡ bs → Some part ≡ slice_get (slice_split (λ b. eqb b 44) text) i → ((n : ℕ) → n < 2 ^ 64 → part ≡ decimal n → r ≡ Some n) → (part ≡ [] → r ≡ None) → r ≡ slice_get (numbers_in bs) i
+read_held bs text count i part r ok e is some none =
+    let cut = ap (λ b. slice_get (slice_split (λ c. eqb c 44) b) i) (e ∙ ok.1.0) in
+    read_part (numbers_in bs) i part r ok.1.1 (is ∙ cut) some none
 
-pub drop_held : (N : ℕ) (bytes after : List ℕ) (len count : ℕ) (first : First) → Sound N bytes len count → Some first ≡ first_sized (numbers_in (take len bytes)) → length after ≡ N → take (len - first.size) after ≡ drop first.size (take len bytes) → Sound N after (len - first.size) (count - 1) × (numbers_in (take (len - first.size) after) ≡ drop 1 (numbers_in (take len bytes)))
-drop_held N bytes after len count first ok is whole text =
-    let ns : List ℕ = numbers_in (take len bytes) in
-    let p = first_parts ns (take len bytes) first ok.3.0 is in
-    let counted = ap (λ k. k - 1) ok.2 ∙ sym (length-drop 1 ns) in
-    row_sound N after (len - first.size) (count - 1) (drop 1 ns) whole (omega (arith, ok.1)) counted (text ∙ p.3) (each_drop (λ m. m < 2 ^ 64) ns 1 ok.3.1)
+pub none_held : (bs text : List ℕ) (count i : ℕ) → Sound bs count → text ≡ bs → None ≡ slice_get (slice_split (λ b. eqb b 44) text) i → None ≡ slice_get (numbers_in bs) i
+none_held bs text count i ok e is =
+    let cut = ap (λ b. slice_get (slice_split (λ c. eqb c 44) b) i) (e ∙ ok.1.0) in
+    no_part (numbers_in bs) i ok.1.1 (is ∙ cut)
+
+-- the first comma of a row's line, if there is one, and what stands behind it
+first_comma : (n : ℕ) (ns : List ℕ) → n < 2 ^ 64 → position (λ b. eqb b 44) (line_of (n ∷ ns)) ≡ Some (length (decimal n))
+first_comma n ns h =
+    let l = length-append (decimal n) (44 ∷ line_of ns) in
+    let within = lt-ltb (length (decimal n)) (length (line_of (n ∷ ns))) (omega arith) in
+    rw (comma_at n ns h, within) refl
+
+comma_of : (ns : List ℕ) → Below (2 ^ 64) ns → (comma : ℕ) → Some comma ≡ position (λ b. eqb b 44) (line_of ns) → (0 < length ns) × (drop (comma + 1) (line_of ns) ≡ line_of (drop 1 ns))
+comma_of [] below comma is = absurd (let z : ◌≡◌ {A = ℕ} 0 1 = cc in omega arith)
+comma_of (n ∷ ns) below comma is =
+    let f = first_comma n ns (below 0) in
+    let same : comma ≡ length (decimal n) = cc in
+    (omega arith, ap (λ k. drop (k + 1) (line_of (n ∷ ns))) same ∙ line_behind n ns)
+
+no_comma_of : (ns : List ℕ) → Below (2 ^ 64) ns → None ≡ position (λ b. eqb b 44) (line_of ns) → length ns ≡ 0
+no_comma_of [] below is = refl
+no_comma_of (n ∷ ns) below is =
+    let f = first_comma n ns (below 0) in absurd (let z : ◌≡◌ {A = ℕ} 0 1 = cc in omega arith)
+
+pub uncut_held : (bs text : List ℕ) (count : ℕ) → Sound bs count → text ≡ bs → None ≡ position (λ b. eqb b 44) text → length (numbers_in bs) ≡ 0
+uncut_held bs text count ok t is =
+    no_comma_of (numbers_in bs) ok.1.1 (is ∙ ap (position (λ b. eqb b 44)) (t ∙ ok.1.0))
+
+pub cut_held : (bs text after : List ℕ) (count comma : ℕ) → Sound bs count → text ≡ bs → Some comma ≡ position (λ b. eqb b 44) text → after ≡ drop (comma + 1) bs → (0 < length (numbers_in bs)) × Sound after (count - 1) × (numbers_in after ≡ drop 1 (numbers_in bs))
+cut_held bs text after count comma ok t is e =
+    let ns : List ℕ = numbers_in bs in
+    let p = comma_of ns ok.1.1 comma (is ∙ ap (position (λ b. eqb b 44)) (t ∙ ok.1.0)) in
+    let counted = ap (λ k. k - 1) ok.0 ∙ sym (length-drop 1 ns) in
+    let held = row_sound after (count - 1) (drop 1 ns) (e ∙ ap (drop (comma + 1)) ok.1.0 ∙ p.1) counted (each_drop (λ m. m < 2 ^ 64) ns 1 ok.1.1) in
+    (p.0, held.0, held.1)

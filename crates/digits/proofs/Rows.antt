@@ -1,12 +1,9 @@
 -- Laws of rows of numbers and of their bytes.
-use Rattle.std.proofs.Common.{◌≡◌, ℕ, suc, ◌+◌, ◌*◌, ◌^◌, ◌<◌, ◌≤◌, Bool, true, cond, leb, List, [], ◌∷◌, ◌++◌, length, get_or, drop, decimal, sym, refl, ap, ◌∙◌, append_assoc, mul-le-mul_left, mul-suc, arith}
+use Rattle.std.proofs.Common.{◌≡◌, ℕ, suc, ◌+◌, ◌*◌, ◌^◌, ◌<◌, ◌≤◌, List, [], ◌∷◌, ◌++◌, length, get_or, drop, decimal, sym, refl, ap, ◌∙◌, append_assoc, mul-le-mul_left, mul-suc, arith}
 use Rattle.std.proofs.lemmas.List.{length-append, length_push, drop_at}
 use Rattle.std.proofs.lemmas.Fmt.{decimal_nonempty, length-decimal-le}
-use Rattle.std.proofs.lemmas.Bool.{cond-true, le-leb}
 use Rattle.rules.proofs.Each.{each_push}
-use Rattle.digits.specs.Text.{line_of, numbers_from, numbers_in}
-use Rattle.digits.specs.Held.{numbers}
-use Rattle.digits.specs.declared.line.NumberLine.{NumberLine}
+use Rattle.digits.specs.Text.{line_of, numbers_from, numbers_in, Below, WellWritten, Sound}
 use Rattle.digits.proofs.Splits.{through_digits}
 
 -- what is written is read back
@@ -48,23 +45,23 @@ line_length k (n ∷ ns) some fits below =
     let more = mul-suc (k + 1) (length ns) in
     omega arith
 
--- There is room for one number more of at most k digits where there are k + 1 bytes for each.
-pub line_room : (N k : ℕ) (ns : List ℕ) (n : ℕ) → 0 < k → 10 ^ k ≤ 2 ^ 64 → ((i : ℕ) → get_or ns i 0 < 10 ^ k) → n < 10 ^ k → (k + 1) * (length ns + 1) ≤ N → leb (length (line_of (ns ++ (n ∷ [])))) N ≡ true
-line_room N k ns n some fits below small room =
-    let l = line_length k (ns ++ (n ∷ [])) some fits (each_push (λ m. m < 10 ^ k) ns n (omega arith) small below) in
+-- Bytes that are the line of a row hold that row.
+pub row_written : (bs ns : List ℕ) → bs ≡ line_of ns → Below (2 ^ 64) ns → WellWritten bs × (numbers_in bs ≡ ns)
+row_written bs ns e below =
+    let r : numbers_in bs ≡ ns = ap numbers_in e ∙ numbers_line ns below in
+    ((e ∙ ap line_of (sym r), λ i. rw r (below i)), r)
+
+pub row_sound : (bs : List ℕ) (count : ℕ) (ns : List ℕ) → bs ≡ line_of ns → count ≡ length ns → Below (2 ^ 64) ns → Sound bs count × (numbers_in bs ≡ ns)
+row_sound bs count ns e counted below =
+    let w = row_written bs ns e below in
+    ((counted ∙ ap length (sym w.1), w.0), w.1)
+
+-- One number more finds room, where the line has k + 1 bytes for each number of at most k digits that it may hold.
+pub line_room : (N k limit bound : ℕ) (ns : List ℕ) (n : ℕ) → 0 < k → 10 ^ k ≤ 2 ^ 64 → bound ≤ 10 ^ k → (k + 1) * limit ≤ N → ((i : ℕ) → get_or ns i 0 < bound) → n < bound → length ns < limit → length (line_of (ns ++ (n ∷ []))) ≤ N
+line_room N k limit bound ns n some fits high room below small few =
+    let each = each_push (λ m. m < 10 ^ k) ns n (omega arith) (omega arith) (λ i. omega (arith, below i)) in
+    let l = line_length k (ns ++ (n ∷ [])) some fits each in
     let e = ap (λ x. (k + 1) * x) (length_push ns n) in
-    le-leb _ N (omega arith)
-
-pub held_below : {N : ℕ} (line : NumberLine N) (i : ℕ) → get_or (numbers line) i 0 < 2 ^ 64
-held_below line i = line.ok.3.1 i
-
--- A push is taken, and keeps limit and bound, where the line has k + 1 bytes for each number that it may hold.
-pub push_kept : (N k limit bound : ℕ) (ns after : List ℕ) (n : ℕ) (took : Bool) → 0 < k → 10 ^ k ≤ 2 ^ 64 → bound ≤ 10 ^ k → (k + 1) * limit ≤ N → ((i : ℕ) → get_or ns i 0 < bound) → n < bound → length ns < limit → took ≡ leb (length (line_of (ns ++ (n ∷ [])))) N → after ≡ cond took (ns ++ (n ∷ [])) ns → (after ≡ ns ++ (n ∷ [])) × (length after ≤ limit) × ((i : ℕ) → get_or after i 0 < bound)
-push_kept N k limit bound ns after n took some fits high room below small few e held =
-    let each : (i : ℕ) → get_or ns i 0 < 10 ^ k = (λ i. omega (arith, below i)) in
     let more : length ns + 1 ≤ limit = omega arith in
     let wide = mul-le-mul_left (k + 1) more in
-    let taken = e ∙ line_room N k ns n some fits each (omega arith) (omega arith) in
-    let is = held ∙ cond-true took (ns ++ (n ∷ [])) ns taken in
-    let l = ap length is ∙ length_push ns n in
-    (is, omega arith, λ i. rw is (each_push (λ m. m < bound) ns n (omega arith) small below i))
+    omega arith

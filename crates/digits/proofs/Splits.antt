@@ -1,20 +1,14 @@
--- Reading the first number of a text digit by digit.
-use Rattle.std.proofs.Common.{◌≡◌, ℕ, ◌+◌, ◌-◌, ◌*◌, ◌/◌, ◌%◌, ◌^◌, ◌<◌, ◌≤◌, false, cond, eqb, List, [], ◌∷◌, ◌++◌, length, get_or, drop, Some, None, decimal, sym, refl, ap, ◌∙◌, ⊎_elim, append_assoc, arith}
+-- A row's bytes, cut at the commas.
+use Rattle.std.proofs.Common.{◌≡◌, ℕ, zero, suc, ◌+◌, ◌-◌, ◌*◌, ◌/◌, ◌%◌, ◌^◌, ◌<◌, ◌≤◌, false, eqb, List, [], ◌∷◌, ◌++◌, length, Some, None, decimal, Option, refl, ap, ◌∙◌, append_assoc, arith}
+use Rattle.std.specs.List.{All, position_or_len, slice_get, slice_split}
+use Rattle.std.proofs.Math.Seq.{get_or-append_seam}
+use Rattle.std.proofs.lemmas.List.{length-append, get_or_append_left}
+use Rattle.std.proofs.lemmas.List.Sums.{position_or_len_is}
 use Rattle.std.proofs.lemmas.Fmt.{decimal_by_steps}
-use Rattle.std.proofs.lemmas.List.{at_drop_more, at_drop_all, length-drop, length-append}
-use Rattle.std.proofs.lemmas.Bool.{eq-eqb, ne_eqb, cases_Bool}
+use Rattle.std.proofs.lemmas.List.Elements.{All-nil, All-push}
+use Rattle.std.proofs.lemmas.List.Splits.{slice_split_at}
+use Rattle.std.proofs.lemmas.Bool.{ne_eqb}
 use Rattle.digits.specs.Text.{line_of, Below}
-use Rattle.digits.specs.First.{first_sized}
-
--- a text at its first comma: the number before it and the bytes behind it
-pub data Split : Type 0 where
-  whole : Split
-  split : ℕ → List ℕ → Split
-
--- the split of a text, where the digits read so far say n
-abbrev pub split_from : ℕ → List ℕ → Split
-split_from n [] = whole
-split_from n (b ∷ bs) = cond (eqb b 44) (split n bs) (split_from (n * 10 + (b - 48)) bs)
 
 -- What a reader that takes up digits one by one makes of a number's digits is the number.
 pub through_digits : {X : Type 0} (F : ℕ → List ℕ → X) → ((n b : ℕ) (bs : List ℕ) → eqb b 44 ≡ false → F n (b ∷ bs) ≡ F (n * 10 + (b - 48)) bs) → (n : ℕ) → n < 2 ^ 64 → (bs : List ℕ) → F 0 (decimal n ++ bs) ≡ F n bs
@@ -32,59 +26,46 @@ through_digits F step = decimal_by_steps (λ n ds. (bs : List ℕ) → F 0 (ds +
     more n ds h front bs =
         ap (F 0) (append_assoc ds ((48 + n % 10) ∷ []) bs) ∙ front ((48 + n % 10) ∷ bs) ∙ digit (n / 10) n (n % 10) bs (omega arith)
 
-split_line : (n : ℕ) (ns : List ℕ) → n < 2 ^ 64 → split_from 0 (line_of (n ∷ ns)) ≡ split n (line_of ns)
-split_line n ns h = through_digits split_from (λ m b bs e. rw e refl) n h (44 ∷ line_of ns)
+-- no digit is a comma
+no_comma : (n : ℕ) → n < 2 ^ 64 → All (λ b. eqb b 44 ≡ false) (decimal n)
+no_comma = decimal_by_steps (λ n ds. All (λ b. eqb b 44 ≡ false) ds) one more
+  where
+    digit : (d : ℕ) → eqb (48 + d) 44 ≡ false
+    digit d = ne_eqb (48 + d) 44 (λ q. omega arith)
 
--- digits only make a number larger
-split_least : (m : ℕ) (bs : List ℕ) (n : ℕ) (rest : List ℕ) → split_from m bs ≡ split n rest → m ≤ n
-split_least m [] n rest e = absurd (let z : ◌≡◌ {A = ℕ} 0 1 = cc in omega arith)
-split_least m (b ∷ bs) n rest e =
-    ⊎_elim
-    (λ comma.
-    let f : split_from m (b ∷ bs) ≡ split m bs = rw comma refl in
-    let same : m ≡ n = cc in
-    omega arith)
-    (λ digit.
-    let f : split_from m (b ∷ bs) ≡ split_from (m * 10 + (b - 48)) bs = rw digit refl in
-    let more = split_least (m * 10 + (b - 48)) bs n rest (sym f ∙ e) in
-    omega arith)
-    (cases_Bool (eqb b 44))
+    one : (n : ℕ) → n < 10 → All (λ b. eqb b 44 ≡ false) ((48 + n) ∷ [])
+    one n h = All-push (λ b. eqb b 44 ≡ false) [] (48 + n) (All-nil (λ b. eqb b 44 ≡ false)) (digit n)
 
--- What the digits so far say is at most the first number, which fits.
-pub split_fits : (ns bs rest : List ℕ) (n : ℕ) → bs ≡ line_of ns → Below (2 ^ 64) ns → 0 < length bs → split_from n rest ≡ split_from 0 bs → n < 2 ^ 64
-split_fits [] bs rest n e below some read = absurd (let z = ap length e in omega arith)
-split_fits (m ∷ ns) bs rest n e below some read =
-    let h : m < 2 ^ 64 = below 0 in
-    let least = split_least n rest m (line_of ns) (read ∙ ap (split_from 0) e ∙ split_line m ns h) in
-    omega arith
+    more : (n : ℕ) (ds : List ℕ) → 10 ≤ n → All (λ b. eqb b 44 ≡ false) ds → All (λ b. eqb b 44 ≡ false) (ds ++ ((48 + n % 10) ∷ []))
+    more n ds h front = All-push (λ b. eqb b 44 ≡ false) ds (48 + n % 10) front (digit (n % 10))
 
--- one digit more
-pub split_more : (bs : List ℕ) (n i : ℕ) → i < length bs → (get_or bs i 0 ≡ 44 → ⊥) → split_from n (drop i bs) ≡ split_from (n * 10 + (get_or bs i 0 - 48)) (drop (i + 1) bs)
-split_more bs n i h ne =
-    let q = ne_eqb (get_or bs i 0) 44 ne in
-    let f : split_from n (get_or bs i 0 ∷ drop (i + 1) bs) ≡ split_from (n * 10 + (get_or bs i 0 - 48)) (drop (i + 1) bs) = rw q refl in
-    at_drop_more (split_from n) bs i 0 h ∙ f
+-- the parts between the commas of a row
+pub split_line : (n : ℕ) (ns : List ℕ) → n < 2 ^ 64 → slice_split (λ b. eqb b 44) (line_of (n ∷ ns)) ≡ decimal n ∷ slice_split (λ b. eqb b 44) (line_of ns)
+split_line n ns h = slice_split_at (λ b. eqb b 44) (decimal n) 44 (line_of ns) (no_comma n h) refl
 
--- At the comma the digits so far are the whole number. The bytes behind the comma are those of the other
--- numbers, so their count gives the size of the first.
-pub split_found : (ns bs : List ℕ) (n i : ℕ) → bs ≡ line_of ns → Below (2 ^ 64) ns → i < length bs → get_or bs i 0 ≡ 44 → split_from n (drop i bs) ≡ split_from 0 bs → Some (record { number = n; size = i + 1 }) ≡ first_sized ns
-split_found [] bs n i e below h comma read = absurd (let z = ap length e in omega arith)
-split_found (m ∷ ns) bs n i e below h comma read =
-    let q = eq-eqb (get_or bs i 0) 44 comma in
-    let f : split_from n (get_or bs i 0 ∷ drop (i + 1) bs) ≡ split n (drop (i + 1) bs) = rw q refl in
-    let g = at_drop_more (split_from n) bs i 0 h in
-    let line = ap (split_from 0) e ∙ split_line m ns (below 0) in
-    let number : n ≡ m = cc in
-    let behind : drop (i + 1) bs ≡ line_of ns = cc in
-    let left = sym (length-drop (i + 1) bs) ∙ ap length behind in
-    let all = ap length e ∙ length-append (decimal m) (44 ∷ line_of ns) in
-    let size : i + 1 ≡ length (decimal m) + 1 = omega arith in
-    cc
+-- The part at an index is read as the number there; the part behind the last comma is empty, and no number.
+pub read_part : (ns : List ℕ) (i : ℕ) (part : List ℕ) (r : Option ℕ) → Below (2 ^ 64) ns → Some part ≡ slice_get (slice_split (λ b. eqb b 44) (line_of ns)) i → ((n : ℕ) → n < 2 ^ 64 → part ≡ decimal n → r ≡ Some n) → (part ≡ [] → r ≡ None) → r ≡ slice_get ns i
+read_part [] zero part r below is some none = none cc
+read_part [] (suc i) part r below is some none = absurd (let z : ◌≡◌ {A = ℕ} 0 1 = cc in omega arith)
+read_part (n ∷ ns) zero part r below is some none =
+    let first = is ∙ ap (λ parts. slice_get parts 0) (split_line n ns (below 0)) in
+    some n (below 0) cc
+read_part (n ∷ ns) (suc i) part r below is some none =
+    read_part ns i part r (λ k. below (suc k)) (is ∙ ap (λ parts. slice_get parts (suc i)) (split_line n ns (below 0))) some none
 
--- no comma stands in an empty row only
-pub split_none : (ns bs : List ℕ) (n i : ℕ) → bs ≡ line_of ns → Below (2 ^ 64) ns → length bs ≤ i → split_from n (drop i bs) ≡ split_from 0 bs → None ≡ first_sized ns
-split_none [] bs n i e below h read = refl
-split_none (m ∷ ns) bs n i e below h read =
-    let line = ap (split_from 0) e ∙ split_line m ns (below 0) in
-    let f = at_drop_all (split_from n) bs i h in
+-- where there is no part, there is no number
+pub no_part : (ns : List ℕ) (i : ℕ) → Below (2 ^ 64) ns → None ≡ slice_get (slice_split (λ b. eqb b 44) (line_of ns)) i → None ≡ slice_get ns i
+no_part [] i below is = refl
+no_part (n ∷ ns) zero below is =
+    let first = is ∙ ap (λ parts. slice_get parts 0) (split_line n ns (below 0)) in
     absurd (let z : ◌≡◌ {A = ℕ} 0 1 = cc in omega arith)
+no_part (n ∷ ns) (suc i) below is =
+    no_part ns i (λ k. below (suc k)) (is ∙ ap (λ parts. slice_get parts (suc i)) (split_line n ns (below 0)))
+
+-- the first comma stands behind the first number's digits
+pub comma_at : (n : ℕ) (ns : List ℕ) → n < 2 ^ 64 → position_or_len (λ b. eqb b 44) (line_of (n ∷ ns)) ≡ length (decimal n)
+comma_at n ns h =
+    let l = length-append (decimal n) (44 ∷ line_of ns) in
+    position_or_len_is (λ b. eqb b 44) (line_of (n ∷ ns)) (length (decimal n)) 0 (omega arith)
+    (λ k below. ap (λ b. eqb b 44) (get_or_append_left (decimal n) (44 ∷ line_of ns) 0 k below) ∙ no_comma n h k 0 below)
+    (λ within. ap (λ b. eqb b 44) (get_or-append_seam (decimal n) 44 (line_of ns) 0))

@@ -1,4 +1,2 @@
 pub mod Text
-pub mod Held
-pub mod First
 pub mod Examples

@@ -1,5 +1,5 @@
 -- Rows of numbers as bytes: each number in decimal digits, then a comma (44).
-use Rattle.std.specs.Prelude.{◌≡◌, ℕ, ◌+◌, ◌-◌, ◌*◌, ◌^◌, ◌<◌, ◌≤◌, cond, List, [], ◌∷◌, ◌++◌, length, take, decimal, ◌==◌, slice_index}
+use Rattle.std.specs.Prelude.{◌≡◌, ℕ, ◌+◌, ◌-◌, ◌*◌, ◌^◌, ◌<◌, cond, List, [], ◌∷◌, ◌++◌, length, decimal, ◌==◌, slice_index}
 
 -- the bytes of a row of numbers
 abbrev pub line_of : List ℕ → List ℕ
@@ -23,7 +23,6 @@ Below m ns = (i : ℕ) → slice_index ns i < m
 abbrev pub WellWritten : List ℕ → Type 0
 WellWritten bs = (bs ≡ line_of (numbers_in bs)) × Below (2 ^ 64) (numbers_in bs)
 
--- the first `len` of N bytes are a row of `count` numbers
-abbrev pub Sound : ℕ → List ℕ → ℕ → ℕ → Type 0
-Sound N bytes len count =
-    (length bytes ≡ N) × (len ≤ N) × (count ≡ length (numbers_in (take len bytes))) × WellWritten (take len bytes)
+-- the bytes are a row of `count` numbers
+abbrev pub Sound : List ℕ → ℕ → Type 0
+Sound bytes count = (count ≡ length (numbers_in bytes)) × WellWritten bytes

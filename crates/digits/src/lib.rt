@@ -3,9 +3,7 @@
 
 ghost use Rattle.digits.specs.Examples.{Examples};
 
-mod changing;
 pub mod line;
-mod reading;
 mod text;
 
 // The worked examples hold of the definitions.

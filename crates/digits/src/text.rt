@@ -1,80 +1,45 @@
-// Numbers in bytes: how many digits one has, how it is written, and how the first is read.
-ghost use Rattle.std.specs.Prelude.{◌≡◌, ◌+◌, ◌-◌, ◌<◌, ◌≤◌, [], ◌∷◌, ◌++◌, length, take, drop, decimal};
-ghost use Rattle.digits.specs.Text.{WellWritten, numbers_in};
-ghost use Rattle.digits.specs.First.{first_sized};
+// Numbers in bytes: how one is written, where the first ends, and how one is read.
+ghost use Rattle.std.specs.Prelude.{◌≡◌, ℕ, ◌^◌, ◌<◌, ◌==◌, [], ◌∷◌, ◌++◌, length, Some, None, decimal, position};
+ghost use Rattle.std.specs.Option.{option_map};
+ghost use Rattle.std.specs.List.{slice_get, slice_split};
 
-// The first number of a text, and how many bytes it takes with its comma.
-#[derive(Clone, Copy)]
-pub(crate) struct First {
-    pub(crate) number: u64,
-    pub(crate) size: usize,
+use arrayvec::ArrayVec;
+use itoa::Buffer;
+use std::str;
+
+// Twenty digits and a comma.
+const LONGEST: usize = 21;
+
+// A number in digits, with its comma.
+pub(crate) fn written(number: u64) -> ArrayVec<u8, LONGEST>
+    ensures { result.items ≡ decimal number ++ (44 ∷ []) }
+{
+    let mut buffer = Buffer::new();
+    let mut text = ArrayVec::new();
+    // the digits of 64 bits find room
+    let _ = text.try_extend_from_slice(buffer.format(number).as_bytes());
+    text.push(b',');
+    text
 }
 
-pub(crate) fn digit_count(number: u64) -> usize
-    ensures exact { result ≡ length (decimal number) }
-    ensures few { result ≤ 20 }
+// Where the first number's comma stands.
+pub(crate) fn first_comma(text: &[u8]) -> Option<usize>
+    ensures { result ≡ position (λ b. b == 44) text.now }
 {
-    match number.checked_ilog10() {
-        Some(power) => power as usize + 1,
-        None => 1,
-    }
+    text.iter().position(|byte| *byte == b',')
 }
 
-// Writes the digits from `start` on, and answers where they end.
-fn write_digits(bytes: &mut [u8], start: usize, number: u64) -> usize
-    requires { start + length (decimal number) ≤ length bytes.old }
-    ensures whole { length bytes.new ≡ length bytes.old }
-    ensures end { result ≡ start + length (decimal number) }
-    ensures text { take result bytes.new ≡ take start bytes.old ++ decimal number }
+// The digits of the number at an index; behind the last comma stand none.
+pub(crate) fn digits_at(text: &[u8], index: usize) -> Option<&[u8]>
+    ensures { option_map (λ digits. digits.now) result ≡ slice_get (slice_split (λ b. b == 44) text.now) index }
 {
-    let last = if number >= 10 {
-        write_digits(bytes, start, number / 10)
-    } else {
-        start
-    };
-    bytes[last] = b'0' + (number % 10) as u8;
-    last + 1
+    text.split(|byte| *byte == b',').nth(index)
 }
 
-// Writes the digits and a comma from `start` on, and answers where they end.
-pub(crate) fn write_number<const N: usize>(bytes: &mut [u8; N], start: usize, number: u64) -> usize
-    requires whole { length bytes.old ≡ N }
-    requires room { start + length (decimal number) < N }
-    ensures whole { length bytes.new ≡ N }
-    ensures end { result ≡ start + length (decimal number) + 1 }
-    ensures text { take result bytes.new ≡ take start bytes.old ++ (decimal number ++ (44 ∷ [])) }
+// The number that digits write.
+pub(crate) fn number_of(digits: &[u8]) -> Option<u64>
+    ensures is { (n : ℕ) → n < 2 ^ 64 → digits.now ≡ decimal n → result ≡ Some n }
+    ensures none { digits.now ≡ [] → result ≡ None }
 {
-    let comma = write_digits(bytes, start, number);
-    bytes[comma] = b',';
-    comma + 1
-}
-
-// Moves the bytes from `start` up to `end` to the front.
-pub(crate) fn move_to_front<const N: usize>(bytes: &mut [u8; N], start: usize, end: usize)
-    requires whole { length bytes.old ≡ N }
-    requires forward { start ≤ end }
-    requires within { end ≤ N }
-    ensures whole { length bytes.new ≡ N }
-    ensures text { take (end - start) bytes.new ≡ drop start (take end bytes.old) }
-{
-    for place in 0..end - start {
-        bytes[place] = bytes[start + place];
-    }
-}
-
-pub(crate) fn first_number(text: &[u8]) -> Option<First>
-    requires { WellWritten text.now }
-    ensures { result ≡ first_sized (numbers_in text.now) }
-{
-    let mut number = 0;
-    for (i, byte) in text.iter().enumerate() {
-        if *byte == b',' {
-            return Some(First {
-                number,
-                size: i + 1,
-            });
-        }
-        number = number * 10 + byte.saturating_sub(b'0') as u64;
-    }
-    None
+    str::from_utf8(digits).ok()?.parse().ok()
 }

@@ -7,10 +7,10 @@ pub fn copy<A: LabelLine, B: LabelLine>(from: &A, to: &mut B)
     ensures { B.LabelLine.codes to.new ≡ A.LabelLine.codes from.now }
 {
     to.clear();
-    for place in 0..from.count() {
-        if let Ok(code) = from.code(place + 1) {
+    for index in 0..from.count() {
+        if let Some(code) = from.get(index) {
             // so many codes have found room on the other line
-            let _ = to.add(u64::from(code));
+            let _ = to.push(code);
         }
     }
 }

@@ -1,8 +1,6 @@
 //! The label line of the formula unit: the codes printed on the label so far, at most 48. Two kinds of memory, one meaning.
 #![tactic(auto)]
 
-pub mod by_bytes;
-pub mod by_digits;
 pub mod byte_line;
 pub mod copying;
 pub mod digit_line;

@@ -1,8 +1,6 @@
 //! The reading queue of the formula unit: the numbers from the scale that wait, at most sixteen. Two kinds of memory, one meaning.
 #![tactic(auto)]
 
-pub mod by_digits;
-pub mod by_ring;
 pub mod digit_queue;
 pub mod emptying;
 pub mod reading_queue;

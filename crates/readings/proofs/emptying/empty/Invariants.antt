@@ -4,6 +4,3 @@ use Rattle.readings.proofs.emptying.empty.Given as goal
 -- what was removed and what still waits are together what waited
 abbrev pub invariant-loop-count : goal.invariant-loop-count
 invariant-loop-count g l = l.count + length (g.Q.ReadingQueue.waiting l.queue) ≡ length (g.Q.ReadingQueue.waiting l.initial.queue)
-
-abbrev pub decreases-loop-count : goal.decreases-loop-count
-decreases-loop-count g l = length (g.Q.ReadingQueue.waiting l.queue)
