@@ -7,7 +7,7 @@ use Rattle.rules.specs.declared.refusal.TextRefusal.{TextRefusal}
 use Rattle.rules.specs.declared.refusal.TextRefusal.TheVariants.{TextTooLong, Unreadable, GroupOutOfPlace, LetterWithoutGroup, TooManyConstants, TooManyInstructions, TapeTooShort}
 
 abbrev pub report : ℕ → ℕ → ℕ → Report
-report n l p = record { number = n; line = l; place = p }
+report n l p = record { number = n; at = record { line = l; place = p } }
 
 abbrev pub fault_number : Fault → ℕ
 fault_number LineEndMissing = 2
@@ -31,4 +31,4 @@ placed e l p = Unreadable e (record { line = l; place = p })
 
 -- what is written for a refusal: its number, line and place, by commas
 abbrev pub report_text : Report → List ℕ
-report_text r = codes "refused," ++ (decimal r.number ++ (44 ∷ (decimal r.line ++ (44 ∷ decimal r.place))))
+report_text r = codes "refused," ++ (decimal r.number ++ (44 ∷ (decimal r.at.line ++ (44 ∷ decimal r.at.place))))

@@ -5,13 +5,13 @@ pub struct Position {
     pub place: usize,
 }
 
-// Why the reading of one line fails.
+// Why the reading of one line fails; each case is worth its number.
 #[derive(Clone, Copy, Debug, PartialEq, Eq)]
 pub enum Fault {
-    LineEndMissing,
-    ByteOutOfPlace,
-    BadConstant,
-    NestedTooDeep,
+    LineEndMissing = 2,
+    ByteOutOfPlace = 3,
+    BadConstant = 4,
+    NestedTooDeep = 5,
 }
 
 // Why a text is refused, and where.
@@ -26,12 +26,11 @@ pub enum TextRefusal {
     TapeTooShort,
 }
 
-// A refusal as it is shown: its number, the line and the place, 0 where none is named.
+// A refusal as it is shown: its number, and where; line or place is 0 where none is named.
 #[derive(Clone, Copy, Debug, PartialEq, Eq)]
 pub struct Report {
     pub number: u8,
-    pub line: usize,
-    pub place: usize,
+    pub at: Position,
 }
 
 // Why a call of the unit, or one of its devices, refuses; each case is worth its number.

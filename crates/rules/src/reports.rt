@@ -16,17 +16,11 @@ impl Fault {
     }
 }
 
-// The refusals of a text by which a line cannot be read are numbered from 2.
 impl From<Fault> for u8 {
     ghost from_gives = { λ f n. n ≡ fault_number f };
 
     fn from(fault: Fault) -> u8 {
-        match fault {
-            Fault::LineEndMissing => 2,
-            Fault::ByteOutOfPlace => 3,
-            Fault::BadConstant => 4,
-            Fault::NestedTooDeep => 5,
-        }
+        fault as u8
     }
 }
 
@@ -34,7 +28,7 @@ impl From<TextRefusal> for Report {
     ghost from_gives = { λ r p. p ≡ reported r };
 
     fn from(refusal: TextRefusal) -> Report {
-        let (number, Position { line, place }) = match refusal {
+        let (number, at) = match refusal {
             TextRefusal::TextTooLong => (1, NOWHERE),
             TextRefusal::Unreadable(fault, at) => (u8::from(fault), at),
             TextRefusal::GroupOutOfPlace(at) => (6, at),
@@ -43,11 +37,7 @@ impl From<TextRefusal> for Report {
             TextRefusal::TooManyInstructions { line } => (9, Position { line, place: 0 }),
             TextRefusal::TapeTooShort => (10, NOWHERE),
         };
-        Report {
-            number,
-            line,
-            place,
-        }
+        Report { number, at }
     }
 }
 
@@ -58,7 +48,11 @@ impl fmt::Display for Report {
     ghost output = { λ r. Some (report_text r) };
 
     fn fmt<W: fmt::Write>(&self, f: &mut fmt::Formatter<W>) -> fmt::Result {
-        write!(f, "refused,{},{},{}", self.number, self.line, self.place)
+        write!(
+            f,
+            "refused,{},{},{}",
+            self.number, self.at.line, self.at.place
+        )
     }
 }
 
