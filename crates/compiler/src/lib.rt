@@ -3,14 +3,13 @@
 
 mod compiling;
 mod constants;
-mod cutting;
 mod groups;
 mod inventory;
-mod noting;
+mod lines;
 mod plan;
 mod survey;
 mod surveying;
+mod tape_writer;
 mod words;
-mod writing;
 
 pub use compiling::compile;

@@ -7,13 +7,13 @@ ghost use Rattle.reader.specs.Held.{held};
 ghost use Rattle.compiler.specs.Onward.{over_with};
 ghost use Rattle.compiler.specs.Counted.{Counted, Added, Ended, Surveyed};
 
-use crate::cutting::next_line;
 use crate::groups::Groups;
+use crate::lines::Lines;
 use crate::survey::Survey;
-use crate::words::same_group;
 use reader::line::{ReadLine, read_line};
 use rules::limits::{INSTRUCTION_LIMIT, LINE_LIMIT};
 use rules::operation::SideKind;
+use rules::ranged::Letter;
 use rules::refusal::TextRefusal;
 
 impl Survey {
@@ -45,7 +45,7 @@ impl Survey {
         if self.over.is_none() && self.instructions > INSTRUCTION_LIMIT {
             self.over = Some(self.lines);
         }
-        if !same_group(self.last, group) {
+        if self.last != Some(group) {
             self.heads += 1;
         }
         self.last = Some(group);
@@ -63,10 +63,13 @@ impl Survey {
             Err(misread) => return Err(misread.fault.at(line, misread.place)),
         };
         let group = read.parts.group;
-        if !self.groups.admits(group) {
+        let Ok(letter) = Letter::try_from(u64::from(group)) else {
+            return Err(TextRefusal::GroupOutOfPlace { line, place: 1 });
+        };
+        if !self.groups.admits(letter) {
             return Err(TextRefusal::GroupOutOfPlace { line, place: 1 });
         }
-        self.groups.note(group, read.parts.target);
+        self.groups.note(letter, read.parts.target);
         self.count(group, instructions_of(&read));
         Ok(())
     }
@@ -113,11 +116,11 @@ pub(crate) fn survey(text: &[u8]) -> Result<Survey, TextRefusal>
     ensures { Surveyed (parsed text.now) result }
 {
     let mut found = Survey::new();
-    let mut rest = text;
-    while let Some((bytes, after)) = next_line(rest) {
+    let mut lines = Lines::of(text);
+    // No `for` over `lines.by_ref()`: what is left behind the last line is asked for below, and the proof would not know it.
+    while let Some(bytes) = lines.next() {
         found.add(bytes)?;
-        rest = after;
     }
-    found.end(rest)?;
+    found.end(lines.rest())?;
     Ok(found)
 }

@@ -6,7 +6,7 @@ use Rattle.compiler.proofs.surveying.survey.Given as goal
 
 -- the lines above are counted, and reading on from here gives what reading from the start gives
 abbrev pub invariant-loop-bytes : goal.invariant-loop-bytes
-invariant-loop-bytes l = (l.found.lines + length l.rest ≤ 16384) × ((above : List Line) × (parsed_from (cut l.initial.text) [] ≡ parsed_from (cut l.rest) above) × Counted l.found above)
+invariant-loop-bytes l = (l.found.lines + length l.lines.rest.now ≤ 16384) × ((above : List Line) × (parsed_from (cut l.text) [] ≡ parsed_from (cut l.lines.rest.now) above) × Counted l.found above)
 
 abbrev pub decreases-loop-bytes : goal.decreases-loop-bytes
-decreases-loop-bytes l = length l.rest
+decreases-loop-bytes l = length l.lines.rest.now
