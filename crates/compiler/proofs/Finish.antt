@@ -25,7 +25,7 @@ use Rattle.laws.proofs.Lengths.{tape_length}
 use Rattle.compiler.specs.declared.survey.Survey.{Survey}
 use Rattle.compiler.specs.Lines.{read_lines, Readable, onto}
 use Rattle.compiler.specs.Counted.{Marks, Counted, over_or}
-use Rattle.compiler.specs.Put.{Wrote}
+use Rattle.compiler.specs.Put.{Stands}
 use Rattle.compiler.specs.Meant.{Written, Meant}
 
 -- a text that is read is readable, and what was read are its lines
@@ -144,9 +144,9 @@ its_length s text above cs l e c h =
     omega (arith, tape_length cs (read_lines (cut text)))
 
 -- the answer and the buffer
-pub answers : (x : Outcome) (ws old new : List ℕ) (r : ℕ) → x ≡ tape ws → length ws ≤ length old → Wrote old 0 ws new r → (told (Ok r) ≡ answered x (length old)) × (new ≡ buffered x old)
+pub answers : (x : Outcome) (ws old new : List ℕ) (r : ℕ) → x ≡ tape ws → length ws ≤ length old → Stands old ws new r → (told (Ok r) ≡ answered x (length old)) × (new ≡ buffered x old)
 answers x ws old new r e h w =
-    let n : r ≡ length ws = omega (arith, w.count) in
+    let n : r ≡ length ws = w.count in
     let b : drop r new ≡ drop (length ws) old = w.back ∙ ap (λ (k : ℕ). drop k old) n in
     let z : new ≡ ws ++ drop (length ws) old = sym (take-append-drop r new) ∙ (ap (λ (o : List ℕ). o ++ drop r new) w.front ∙ ap (λ (o : List ℕ). ws ++ o) b) in
     rw (e, le-leb (length ws) (length old) h) ((cc), z)

@@ -5,6 +5,7 @@ pub mod Onward
 pub mod Counted
 pub mod Scan
 pub mod Mentioned
+pub mod Rewritten
 pub mod Put
 pub mod Planned
 pub mod Meant

@@ -1,11 +1,10 @@
 -- What going over the letters and constants of a text says of them.
-use Rattle.std.specs.Prelude.{◌≡◌, ◌-◌, ◌<◌, ◌≤◌, ℕ, Bool, false, cond, not, List, [], length, Some, None, Result, MatchResult, slice_index_or}
-use Rattle.rules.specs.declared.refusal.Report.{Report}
+use Rattle.std.specs.Prelude.{◌≡◌, ◌-◌, ℕ, Bool, false, cond, not, List, [], Some, None, Result, MatchResult, slice_index_or}
 use Rattle.rules.specs.declared.refusal.TextRefusal.{TextRefusal}
 use Rattle.rules.specs.Refusals.{reported}
 use Rattle.rules.specs.Tree.{Program}
 use Rattle.rules.specs.Reading.{between}
-use Rattle.rules.specs.Mentions.{Mention, noted, different, first_loose, first_past}
+use Rattle.rules.specs.Mentions.{Mention, different, first_loose, first_past}
 use Rattle.compiler.specs.declared.groups.Groups.{Groups}
 use Rattle.compiler.specs.declared.constants.Constants.{Constants}
 use Rattle.compiler.specs.Held.{table}

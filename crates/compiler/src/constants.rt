@@ -3,7 +3,7 @@ ghost use Rattle.std.specs.Prelude.{◌≤◌, length};
 use arrayvec::{ArrayVec, CapacityError};
 use reader::numbers::{constant, is_digit};
 use rules::limits::CONSTANT_LIMIT;
-use rules::refusal::TextRefusal;
+use rules::refusal::{Position, TextRefusal};
 
 // Where a line's side begins, behind the letter and the comma.
 pub(crate) const SIDE_PLACE: usize = 3;
@@ -56,13 +56,13 @@ impl Constants {
         self.numbers.try_push(number)
     }
 
-    // Takes in the constant that begins here.
-    fn take_at(&mut self, at: &[u8], line: usize, place: usize) -> Result<(), TextRefusal>
-        ensures { TakenFirst (found line place (constant_at at.now)) (table self.old) result (table self.new) }
+    // Takes in the constant that the bytes begin with.
+    fn take_first(&mut self, bytes: &[u8], at: Position) -> Result<(), TextRefusal>
+        ensures { TakenFirst (found at.line at.place (constant_at bytes.now)) (table self.old) result (table self.new) }
     {
-        if let Ok((number, _)) = constant(at) {
+        if let Ok((number, _)) = constant(bytes) {
             if self.note(number).is_err() {
-                return Err(TextRefusal::TooManyConstants { line, place });
+                return Err(TextRefusal::TooManyConstants(at));
             }
         }
         Ok(())
@@ -77,7 +77,8 @@ impl Constants {
         for (i, byte) in side.iter().enumerate() {
             let digit = is_digit(*byte);
             if digit && !inside {
-                self.take_at(&side[i..], line, SIDE_PLACE + i)?;
+                let place = SIDE_PLACE + i;
+                self.take_first(&side[i..], Position { line, place })?;
             }
             inside = digit;
         }

@@ -7,7 +7,7 @@ ghost use Rattle.compiler.specs.Mentioned.{lacks, Lettered, TakenAll};
 use crate::constants::{Constants, SIDE_PLACE};
 use crate::groups::Groups;
 use crate::lines::Lines;
-use rules::refusal::TextRefusal;
+use rules::refusal::{Position, TextRefusal};
 
 // What stands behind a line's letter and comma.
 fn side_of(line: &[u8]) -> &[u8]
@@ -35,7 +35,7 @@ pub(crate) fn check_letters(text: &[u8], groups: &Groups) -> Result<(), TextRefu
     for (line, bytes) in (1..).zip(Lines::of(text)) {
         if let Some(i) = loose_letter(side_of(bytes), groups) {
             let place = SIDE_PLACE + i;
-            return Err(TextRefusal::LetterWithoutGroup { line, place });
+            return Err(TextRefusal::LetterWithoutGroup(Position { line, place }));
         }
     }
     Ok(())

@@ -6,9 +6,7 @@ mod constants;
 mod groups;
 mod inventory;
 mod lines;
-mod plan;
 mod survey;
-mod surveying;
 mod tape_writer;
 mod words;
 

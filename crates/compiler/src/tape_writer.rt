@@ -1,21 +1,19 @@
 ghost use Rattle.std.specs.Prelude.{◌≡◌, ◌+◌, ◌<◌, ◌≤◌, ◌∷◌, [], None, length};
-ghost use Rattle.rules.specs.Tree.{Line};
 ghost use Rattle.rules.specs.Texts.{cut};
-ghost use Rattle.rules.specs.Operations.{line_parts, side_operations};
-ghost use Rattle.rules.specs.Words.{operation_words, head_if, line_words, constant_words, code_words, tape_of};
-ghost use Rattle.reader.specs.Held.{held};
+ghost use Rattle.rules.specs.Words.{operation_words, head_if, constant_words, code_words, tape_of};
 ghost use Rattle.compiler.specs.Held.{table};
 ghost use Rattle.compiler.specs.Lines.{read_lines};
+ghost use Rattle.compiler.specs.Rewritten.{read_words};
 ghost use Rattle.compiler.specs.Put.{Room, Wrote, Stands};
 
 use crate::constants::Constants;
 use crate::lines::Lines;
-use crate::words::{Field, operation_word, transfer_word, word};
-use reader::line::{ReadLine, read_line};
+use crate::words::{Field, constant_word, head_word, operation_word, transfer_word};
+use reader::line::{ReadLine, Side, read_line};
 use rules::cells::READING_ORGAN;
-use rules::operation::{Operation, SideKind};
-use rules::table::transfer;
-use rules::tape::{CONSTANT_CODE, END_WORD, HEAD_MARK};
+use rules::operation::Operation;
+use rules::ranged::Letter;
+use rules::tape::END_WORD;
 
 // The words of a tape, put one behind the other at the front of a buffer. The constants of its text are known.
 #[derive(Drop)]
@@ -54,8 +52,7 @@ impl<'t> TapeWriter<'t> {
     {
         let held = self.constants.as_slice();
         for (place, number) in held.iter().enumerate() {
-            let none = Field::of(0);
-            self.put(word(none, CONSTANT_CODE, none, Field::constant(place)));
+            self.put(constant_word(place));
             self.put(*number);
         }
     }
@@ -76,29 +73,28 @@ impl<'t> TapeWriter<'t> {
     }
 
     // Puts a group's head, where the line above is none of the group.
-    fn put_head(&mut self, group: u8, above: Option<u8>)
+    fn put_head(&mut self, group: Letter, above: Option<Letter>)
         requires { Room self.old (head_if above group) }
         ensures { Wrote self.old (head_if above group) self.new }
     {
         if above != Some(group) {
-            let mark = Field::of(HEAD_MARK);
-            let code = transfer().code;
-            self.put(word(Field::of(0), code, mark, Field::letter(group)));
+            self.put(head_word(group));
         }
     }
 
     // Puts a line's words.
     fn put_line(&mut self, read: &ReadLine)
-        requires { (k : Line) → read.now.parts ≡ line_parts k → held read.now.operations ≡ side_operations k.side → Room self.old (line_words (table self.old.constants.now) k) }
-        ensures { (k : Line) → read.now.parts ≡ line_parts k → held read.now.operations ≡ side_operations k.side → Wrote self.old (line_words (table self.old.constants.now) k) self.new }
+        requires { Room self.old (read_words (table self.old.constants.now) read.now) }
+        ensures { Wrote self.old (read_words (table self.old.constants.now) read.now) self.new }
     {
-        let target = Field::target(read.parts.target);
-        match read.parts.side {
-            SideKind::Reading => self.put(transfer_word(Field::of(READING_ORGAN), target)),
-            SideKind::Single(atom) => {
-                self.put(transfer_word(Field::atom(atom, self.constants), target))
+        let target = Field::target(read.target);
+        match &read.side {
+            Side::Reading => self.put(transfer_word(Field::of(READING_ORGAN), target)),
+            Side::Single(atom) => {
+                let atom = Field::atom(*atom, self.constants);
+                self.put(transfer_word(atom, target));
             }
-            SideKind::Pair => self.put_operations(read.operations.as_slice(), target),
+            Side::Pair(operations) => self.put_operations(operations.as_slice(), target),
         }
     }
 
@@ -110,9 +106,9 @@ impl<'t> TapeWriter<'t> {
         let mut above = None;
         for bytes in Lines::of(text) {
             if let Ok(read) = read_line(bytes) {
-                self.put_head(read.parts.group, above);
+                self.put_head(read.group, above);
                 self.put_line(&read);
-                above = Some(read.parts.group);
+                above = Some(read.group);
             }
         }
     }

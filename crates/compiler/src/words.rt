@@ -1,14 +1,16 @@
 ghost use Rattle.std.specs.Prelude.{◌≡◌, ◌<◌, ◌≤◌};
 ghost use Rattle.rules.specs.Cells.{atom_address, source_address, target_address, variable_cell, letter_cell, constant_cell, temporary_cell, pointed};
 ghost use Rattle.rules.specs.Codes.{transfer_code};
-ghost use Rattle.rules.specs.Words.{word as word_of, operation_word as operation_word_of};
+ghost use Rattle.rules.specs.Words.{word as word_of, operation_word as operation_word_of, head_word as head_word_of, constant_code};
 ghost use Rattle.compiler.specs.Held.{table};
 
 use crate::constants::Constants;
 use rules::cells::{CONSTANTS, LABEL, LETTERS, PLACE_REGISTER, POINTED, TEMPORARIES, VARIABLES};
 use rules::formula::{Atom, Target};
 use rules::operation::{Operation, Source};
+use rules::ranged::Letter;
 use rules::table::transfer;
+use rules::tape::{CONSTANT_CODE, HEAD_MARK};
 use std::marker::Model;
 
 // An address as a word holds it, in four digits: a cell, what a cell points to, an organ or a register.
@@ -40,22 +42,22 @@ impl Field {
     fn variable(byte: u8) -> Field
         ensures { result ≡ variable_cell byte }
     {
-        Field::of(VARIABLES + u64::from(byte).saturating_sub(u64::from(b'a')))
+        Field::of(VARIABLES + u64::from(byte.saturating_sub(b'a')))
     }
 
     fn pointed(byte: u8) -> Field
         ensures { result ≡ pointed (variable_cell byte) }
     {
-        Field::of(POINTED + VARIABLES + u64::from(byte).saturating_sub(u64::from(b'a')))
+        Field::of(POINTED + VARIABLES + u64::from(byte.saturating_sub(b'a')))
     }
 
-    pub(crate) fn letter(byte: u8) -> Field
+    fn letter(byte: u8) -> Field
         ensures { result ≡ letter_cell byte }
     {
-        Field::of(LETTERS + u64::from(byte).saturating_sub(u64::from(b'A')))
+        Field::of(LETTERS + u64::from(byte.saturating_sub(b'A')))
     }
 
-    pub(crate) fn constant(place: usize) -> Field
+    fn constant(place: usize) -> Field
         requires { place ≤ 46 }
         ensures { result ≡ constant_cell place }
     {
@@ -101,7 +103,7 @@ impl Field {
 }
 
 // The fourteen digits of a word.
-pub(crate) fn word(left: Field, code: u8, right: Field, target: Field) -> u64
+fn word(left: Field, code: u8, right: Field, target: Field) -> u64
     requires { code < 100 }
     ensures { result ≡ word_of left code right target }
 {
@@ -109,6 +111,23 @@ pub(crate) fn word(left: Field, code: u8, right: Field, target: Field) -> u64
         + u64::from(code) * 100_000_000
         + right.value * 10_000
         + target.value
+}
+
+// The word before a constant.
+pub(crate) fn constant_word(place: usize) -> u64
+    requires { place ≤ 46 }
+    ensures { result ≡ word_of 0 constant_code 0 (constant_cell place) }
+{
+    let none = Field::of(0);
+    word(none, CONSTANT_CODE, none, Field::constant(place))
+}
+
+// The word at the head of a group.
+pub(crate) fn head_word(group: Letter) -> u64
+    ensures { result ≡ head_word_of group }
+{
+    let cell = Field::of(LETTERS + group.index() as u64);
+    word(Field::of(0), transfer().code, Field::of(HEAD_MARK), cell)
 }
 
 // The word of a side without operation.

@@ -1,6 +1,5 @@
-use Rattle.std.proofs.Common.{◌≡◌, ℕ, suc, false, List, drop, sym, refl, ap, ◌∙◌, subst, inl, inr, length, add-one, length-drop, arith}
+use Rattle.std.proofs.Common.{ℕ, suc, false, List, drop, sym, refl, ap, ◌∙◌, inl, inr, length-drop, arith}
 use Rattle.std.proofs.lemmas.Result.{err_from_is_err_and}
-use Rattle.rules.specs.Tree.{Program}
 use Rattle.rules.specs.Texts.{cut}
 use Rattle.rules.specs.Mentions.{Mention, program_mentions, first_past, different}
 use Rattle.compiler.specs.Held.{table}

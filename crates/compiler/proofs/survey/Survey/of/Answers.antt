@@ -1,6 +1,6 @@
 use Rattle.std.proofs.Common.{◌∷◌, ap, ◌∙◌, arith}
 use Rattle.rules.specs.Texts.{Text, cut, parsed_from}
-use Rattle.compiler.proofs.surveying.survey.Goals as goal
+use Rattle.compiler.proofs.survey.Survey.of.Goals as goal
 
 pub loop-bytes-preserved : goal.loop-bytes-preserved
 loop-bytes-preserved c =

@@ -2,7 +2,7 @@ use Rattle.std.proofs.Common.{◌≡◌, ◌+◌, ◌≤◌, List, [], length}
 use Rattle.rules.specs.Tree.{Line}
 use Rattle.rules.specs.Texts.{cut, parsed_from}
 use Rattle.compiler.specs.Counted.{Counted}
-use Rattle.compiler.proofs.surveying.survey.Given as goal
+use Rattle.compiler.proofs.survey.Survey.of.Given as goal
 
 -- the lines above are counted, and reading on from here gives what reading from the start gives
 abbrev pub invariant-loop-bytes : goal.invariant-loop-bytes
