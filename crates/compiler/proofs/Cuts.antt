@@ -1,6 +1,6 @@
 -- Where the first line of a text ends.
-use Rattle.std.proofs.Common.{◌≡◌, ℕ, zero, suc, ◌-◌, ◌<◌, true, false, eqb, List, [], ◌∷◌, length, take, drop, refl, add-one, arith}
-use Rattle.std.proofs.lemmas.List.{take_rest, drop-drop}
+use Rattle.std.proofs.Common.{◌≡◌, ℕ, zero, suc, ◌<◌, true, false, eqb, List, [], ◌∷◌, length, take, drop, sym, refl, ap, add-one, ◌∙◌, arith}
+use Rattle.std.proofs.lemmas.List.{drop-drop}
 use Rattle.std.proofs.lemmas.Bool.Decides.{nat_tests}
 use Rattle.std.specs.List.{prefix_len}
 use Rattle.rules.specs.Texts.{tail, line, cut}
@@ -22,5 +22,7 @@ cut_line (x ∷ xs) (suc n) e h =
     rw (f, cut_line xs n g (omega arith))
 
 -- as the code names the parts
-pub cut_parts : (xs ys zs : List ℕ) (n : ℕ) → n ≡ prefix_len in_line xs → n < length xs → ys ≡ take n xs → zs ≡ drop n xs → cut xs ≡ line ys (cut (take (length zs - 1) (drop 1 zs)))
-cut_parts xs ys zs n e h a b = rw (a, b, take_rest (drop n xs) 1, drop-drop 1 n xs, add-one) (cut_line xs n e h)
+pub cut_parts : (xs ys zs rest : List ℕ) (n x : ℕ) → n ≡ prefix_len in_line xs → n < length xs → ys ≡ take n xs → zs ≡ drop n xs → zs ≡ x ∷ rest → cut xs ≡ line ys (cut rest)
+cut_parts xs ys zs rest n x e h a b c =
+    let d : rest ≡ drop (suc n) xs = ap (drop 1) (sym c ∙ b) ∙ (drop-drop 1 n xs ∙ ap (λ k. drop k xs) (add-one n)) in
+    rw (a, d) (cut_line xs n e h)

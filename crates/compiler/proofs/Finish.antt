@@ -12,7 +12,7 @@ use Rattle.rules.specs.Refusals.{report, reported}
 use Rattle.rules.specs.Tree.{Line, Program}
 use Rattle.rules.specs.Reading.{Read, got, fails, line_read}
 use Rattle.rules.specs.Texts.{Text, tail, line, cut, has, awaited, allowed, ended_by, on_line, Parsed, program, refused, parsed_from, parsed}
-use Rattle.rules.specs.Mentions.{program_mentions, first_loose, first_past, constants_of}
+use Rattle.rules.specs.Mentions.{program_mentions, first_loose, first_past, different}
 use Rattle.rules.specs.Operations.{first_over}
 use Rattle.rules.specs.Words.{code_words, tape_of}
 use Rattle.rules.specs.Compiled.{Outcome, tape, refuse, judged, on_parsed, compiled, told, answered, buffered}
@@ -23,14 +23,10 @@ use Rattle.laws.proofs.Parsing.{same_program, reverse_onto}
 use Rattle.laws.proofs.Accepting.{accepted_written, written_accepted}
 use Rattle.laws.proofs.Lengths.{tape_length}
 use Rattle.compiler.specs.declared.survey.Survey.{Survey}
-use Rattle.compiler.specs.declared.inventory.Inventory.{Inventory}
 use Rattle.compiler.specs.Lines.{read_lines, Readable, onto}
-use Rattle.compiler.specs.Held.{table}
 use Rattle.compiler.specs.Counted.{Marks, Counted, over_or}
-use Rattle.compiler.specs.Kept.{Kept, kept, shown, tallied, start}
-use Rattle.compiler.specs.Put.{Wrote}
+use Rattle.compiler.specs.Put.{Stands}
 use Rattle.compiler.specs.Meant.{Written, Meant}
-use Rattle.compiler.proofs.Keeps.{tallied_is}
 
 -- a text that is read is readable, and what was read are its lines
 only_line : (p rest : List ℕ) (k : Line) → line_read p ≡ got k rest → line_read p ≡ got k []
@@ -112,37 +108,34 @@ compiled_judged text above h e = compiled_on text (program (reverse above)) h e 
 pub compiled_loose : (text : List ℕ) (above : Program) (r : Report) → length text ≤ 16384 → parsed text ≡ program (reverse above) → first_loose (read_lines (cut text)) (program_mentions 1 (read_lines (cut text))) ≡ Some r → compiled text ≡ refuse r
 compiled_loose text above r h e f = compiled_judged text above h e ∙ rw f
 
--- what was found of a text whose letters all have groups
-pub record Found (text : List ℕ) (above : Program) (v : Inventory) : Type 0 where
+-- a text whose letters all have groups
+pub record Fine (text : List ℕ) (above : Program) : Type 0 where
   pub short : length text ≤ 16384
   pub parses : parsed text ≡ program (reverse above)
   pub lettered : first_loose (read_lines (cut text)) (program_mentions 1 (read_lines (cut text))) ≡ None
-  pub inventory : tallied (program_mentions 1 (read_lines (cut text))) start ≡ kept v
 
-pub found : (s : Survey) (text : List ℕ) (above : Program) (v : Inventory) → length text ≤ 16384 → parsed text ≡ program (reverse above) → Counted s above → (tallied (program_mentions 1 (read_lines (cut text))) start ≡ kept v) × ((ks : Program) → Marks s.groups ks → first_loose ks (program_mentions 1 (read_lines (cut text))) ≡ None) → Found text above v
-found s text above v h e c i = record { short = h; parses = e; lettered = i.1 (read_lines (cut text)) (its_marks s text above e c); inventory = i.0 }
+pub fine : (s : Survey) (text : List ℕ) (above : Program) → length text ≤ 16384 → parsed text ≡ program (reverse above) → Counted s above → ((ks : Program) → Marks s.groups ks → first_loose ks (program_mentions 1 (read_lines (cut text))) ≡ None) → Fine text above
+fine s text above h e c l = record { short = h; parses = e; lettered = l (read_lines (cut text)) (its_marks s text above e c) }
 
-its_past : (text : List ℕ) (above : Program) (v : Inventory) → Found text above v → first_past (program_mentions 1 (read_lines (cut text))) [] ≡ shown v.past
-its_past text above v f = sym (tallied_is (program_mentions 1 (read_lines (cut text))) []).0 ∙ ap (λ (k : Kept). k.past) f.inventory
+-- its constants, all of which have places
+abbrev Placed : List ℕ → List ℕ → Type 0
+Placed text cs = (first_past (program_mentions 1 (read_lines (cut text))) [] ≡ None) × (cs ≡ different (program_mentions 1 (read_lines (cut text))) [])
 
-its_constants : (text : List ℕ) (above : Program) (v : Inventory) → Found text above v → v.past ≡ None → constants_of (read_lines (cut text)) ≡ table v.constants
-its_constants text above v f e = sym ((tallied_is (program_mentions 1 (read_lines (cut text))) []).1 (ap (λ (k : Kept). k.past) f.inventory ∙ ap shown e)) ∙ ap (λ (k : Kept). k.constants) f.inventory
-
-pub compiled_past : (text : List ℕ) (above : Program) (v : Inventory) (r : Report) → Found text above v → shown v.past ≡ Some r → compiled text ≡ refuse r
-compiled_past text above v r f e = compiled_judged text above f.short f.parses ∙ rw (f.lettered, its_past text above v f ∙ e)
+pub compiled_past : (text : List ℕ) (above : Program) (r : Report) → Fine text above → first_past (program_mentions 1 (read_lines (cut text))) [] ≡ Some r → compiled text ≡ refuse r
+compiled_past text above r f e = compiled_judged text above f.short f.parses ∙ rw (f.lettered, e)
 
 its_over : (s : Survey) (text : List ℕ) (above : Program) → parsed text ≡ program (reverse above) → Counted s above → first_over 0 1 (read_lines (cut text)) ≡ over_or s.over None
 its_over s text above e c = ap (first_over 0 1) (the_lines text above e ∙ sym (append-nil (reverse above))) ∙ c.over []
 
-pub compiled_over : (s : Survey) (text : List ℕ) (above : Program) (v : Inventory) (l : ℕ) → Found text above v → v.past ≡ None → Counted s above → s.over ≡ Some l → compiled text ≡ refuse (report 9 l 0)
-compiled_over s text above v l f n c h =
+pub compiled_over : (s : Survey) (text : List ℕ) (above : Program) (cs : List ℕ) (l : ℕ) → Fine text above → Placed text cs → Counted s above → s.over ≡ Some l → compiled text ≡ refuse (report 9 l 0)
+compiled_over s text above cs l f p c h =
     let o : first_over 0 1 (read_lines (cut text)) ≡ Some (report 9 l 0) = its_over s text above f.parses c ∙ ap (λ (x : Option ℕ). over_or x None) h in
-    compiled_judged text above f.short f.parses ∙ rw (f.lettered, its_past text above v f ∙ ap shown n, o)
+    compiled_judged text above f.short f.parses ∙ rw (f.lettered, p.0, o)
 
-pub compiled_tape : (s : Survey) (text : List ℕ) (above : Program) (v : Inventory) → Found text above v → v.past ≡ None → Counted s above → s.over ≡ None → compiled text ≡ tape (tape_of (table v.constants) (read_lines (cut text)))
-compiled_tape s text above v f n c h =
+pub compiled_tape : (s : Survey) (text : List ℕ) (above : Program) (cs : List ℕ) → Fine text above → Placed text cs → Counted s above → s.over ≡ None → compiled text ≡ tape (tape_of cs (read_lines (cut text)))
+compiled_tape s text above cs f p c h =
     let o : first_over 0 1 (read_lines (cut text)) ≡ None = its_over s text above f.parses c ∙ ap (λ (x : Option ℕ). over_or x None) h in
-    compiled_judged text above f.short f.parses ∙ rw (f.lettered, its_past text above v f ∙ ap shown n, o, its_constants text above v f n)
+    compiled_judged text above f.short f.parses ∙ rw (f.lettered, p.0, o, p.1)
 
 -- the tape's length, from the counts
 pub its_length : (s : Survey) (text : List ℕ) (above : Program) (cs : List ℕ) (l : ℕ) → parsed text ≡ program (reverse above) → Counted s above → l ≡ length cs → 2 * l + s.heads + s.instructions + 1 ≡ length (tape_of cs (read_lines (cut text)))
@@ -151,9 +144,9 @@ its_length s text above cs l e c h =
     omega (arith, tape_length cs (read_lines (cut text)))
 
 -- the answer and the buffer
-pub answers : (x : Outcome) (ws old new : List ℕ) (r : ℕ) → x ≡ tape ws → length ws ≤ length old → Wrote old 0 ws new r → (told (Ok r) ≡ answered x (length old)) × (new ≡ buffered x old)
+pub answers : (x : Outcome) (ws old new : List ℕ) (r : ℕ) → x ≡ tape ws → length ws ≤ length old → Stands old ws new r → (told (Ok r) ≡ answered x (length old)) × (new ≡ buffered x old)
 answers x ws old new r e h w =
-    let n : r ≡ length ws = omega (arith, w.count) in
+    let n : r ≡ length ws = w.count in
     let b : drop r new ≡ drop (length ws) old = w.back ∙ ap (λ (k : ℕ). drop k old) n in
     let z : new ≡ ws ++ drop (length ws) old = sym (take-append-drop r new) ∙ (ap (λ (o : List ℕ). o ++ drop r new) w.front ∙ ap (λ (o : List ℕ). ws ++ o) b) in
     rw (e, le-leb (length ws) (length old) h) ((cc), z)

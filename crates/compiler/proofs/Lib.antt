@@ -2,7 +2,8 @@ mod Cuts
 mod Tables
 mod Surveys
 mod Scanned
-mod Keeps
+mod Takes
+mod Loose
 mod Puts
 mod Rereads
 mod Finish

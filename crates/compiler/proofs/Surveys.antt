@@ -1,21 +1,20 @@
 -- One line of the text, at each way out of the survey, and what the survey then holds.
 -- The two counts, of instructions and of words, are facts about any lines below: reading one line more only uses such a fact
 -- at that line put before the others. So nothing has to be said of a list that grows at its end.
-use Rattle.std.proofs.Common.{◌≡◌, ℕ, suc, ◌+◌, ◌-◌, ◌<◌, ◌≤◌, Bool, true, false, cond, not, ◌||◌, eqb, leb, ◌≢◌, List, [], ◌∷◌, reverse, length, get_or, set, replicate, is_some, Some, None, Option, sym, refl, ap, ◌∙◌, inl, inr, arith}
+use Rattle.std.proofs.Common.{◌≡◌, ℕ, suc, ◌+◌, ◌-◌, ◌<◌, ◌≤◌, Bool, true, false, cond, not, ◌||◌, eqb, leb, ◌≢◌, min, List, [], ◌∷◌, reverse, length, get_or, set, replicate, is_some, Some, None, Option, sym, refl, ap, ◌∙◌, inl, inr, arith}
 use Rattle.std.proofs.lemmas.List.{length-set, get_or-set_same, get_or-set_other, get_or-replicate}
-use Rattle.std.proofs.lemmas.Bool.{le-leb, lt-leb, eq-eqb, ne_eqb, cases_eq}
+use Rattle.std.proofs.lemmas.Bool.{eq-eqb, ne_eqb, cases_eq}
+use Rattle.std.proofs.lemmas.Bool.Decides.{nat_tests}
 use Rattle.rules.specs.declared.refusal.Report.{Report}
 use Rattle.rules.specs.declared.refusal.Fault.{Fault}
 use Rattle.rules.specs.Refusals.{report, reported, placed}
-use Rattle.rules.specs.declared.operation.Operation.{Operation}
-use Rattle.rules.specs.declared.operation.SideKind as kinds
-use Rattle.rules.specs.declared.operation.SideKind.TheVariants.{Pair}
-use Rattle.rules.specs.declared.operation.LineParts.{LineParts}
-use Rattle.rules.specs.Tree.{Side, reading, single, both, Line, Program}
+use Rattle.rules.specs.Tree.{Line, Program}
 use Rattle.rules.specs.Reading.{got, fails, line_read}
 use Rattle.rules.specs.Texts.{Text, tail, line, has, awaited, allowed_by, allowed, closes, program, refused, parsed_from}
-use Rattle.rules.specs.Operations.{line_parts, side_kind, side_operations, side_count, first_over}
+use Rattle.rules.specs.Operations.{side_count, first_over}
 use Rattle.rules.specs.Words.{same_group, code_words}
+use Rattle.reader.specs.declared.line.ReadLine.{ReadLine}
+use Rattle.reader.specs.Lines.{line_of}
 use Rattle.laws.proofs.Lines.{lines_written, read_short}
 use Rattle.laws.proofs.Lengths.{code_length}
 use Rattle.laws.proofs.Parsing.{reverse_onto}
@@ -25,18 +24,14 @@ use Rattle.compiler.specs.Onward.{admits, over_with}
 use Rattle.compiler.specs.Counted.{Marks, Counted, last_group, over_or}
 
 -- after the last line end
-pub long_end : (p : List ℕ) (above : List Line) (n : ℕ) → 80 < length p → n ≡ length above → parsed_from (tail p) above ≡ refused (report 2 (n + 1) 81)
+pub left_end : (p : List ℕ) (above : List Line) (n : ℕ) → 0 < length p → n ≡ length above → parsed_from (tail p) above ≡ refused (report 2 (n + 1) (min (length p) 80 + 1))
 unfolding parsed_from
-long_end [] above n h e = absurd (omega arith)
-long_end (x ∷ xs) above n h e = let f : n + 1 ≡ suc (length above) = omega arith in rw (lt-leb (length (x ∷ xs)) 80 h, f)
-
-pub some_end : (p : List ℕ) (above : List Line) (n : ℕ) → 0 < length p → length p ≤ 80 → n ≡ length above → parsed_from (tail p) above ≡ refused (report 2 (n + 1) (length p + 1))
-unfolding parsed_from
-some_end [] above n h k e = absurd (omega arith)
-some_end (x ∷ xs) above n h k e =
-    let f : n + 1 ≡ suc (length above) = omega arith in
-    let g : suc (length (x ∷ xs)) ≡ length (x ∷ xs) + 1 = omega arith in
-    rw (le-leb (length (x ∷ xs)) 80 k, f, g)
+left_end [] above n h e = absurd (omega arith)
+left_end (x ∷ xs) above n h e = let f : n + 1 ≡ suc (length above) = omega arith in rw f (by (leb (length (x ∷ xs)) 80) refl)
+  where
+    by : (b : Bool) → leb (length (x ∷ xs)) 80 ≡ b → refused (report 2 (suc (length above)) (cond b (suc (length (x ∷ xs))) 81)) ≡ refused (report 2 (suc (length above)) (min (length (x ∷ xs)) 80 + 1))
+    by true g = let k : suc (length (x ∷ xs)) ≡ min (length (x ∷ xs)) 80 + 1 = grind (arith, nat_tests) in rw k
+    by false g = let k : 81 ≡ min (length (x ∷ xs)) 80 + 1 = grind (arith, nat_tests) in rw k
 
 pub open_end : (p : List ℕ) (above : List Line) (n : ℕ) (o : Option ℕ) → length p ≤ 0 → n ≡ length above → o ≡ awaited above → false ≡ not (is_some o) → parsed_from (tail p) above ≡ refused (report 6 (n + 1) 0)
 unfolding parsed_from
@@ -63,15 +58,21 @@ pub allowed_line : (p : List ℕ) (t : Text) (above : List Line) (k : Line) → 
 unfolding parsed_from
 allowed_line p t above k f g = rw (f, g)
 
+-- a line that was read has a letter for its group
+group_letter : (p : List ℕ) (l : Line) → line_read p ≡ got l [] → (65 ≤ l.group) × (l.group ≤ 90)
+group_letter p l e = let w = (lines_written p [] l (read_short p [] l e).1).0.group in (omega (arith, w.0), omega (arith, w.1))
+
 -- the letter's test is the rule
 admits_by : (o : Option ℕ) (seen : List Bool) (above : List Line) (g : ℕ) → get_or seen (g - 65) false ≡ has above g → admits o seen g ≡ allowed_by o above g
 admits_by None seen above g e = rw e
 admits_by (Some a) seen above g e = refl
 
-pub admits_allowed : (s : Survey) (above : List Line) (g : ℕ) (k : Line) (b : Bool) → Counted s above → 65 ≤ g → g ≤ 90 → g ≡ k.group → b ≡ admits s.groups.awaited s.groups.seen g → allowed above k.group ≡ b
-admits_allowed s above g k b c l h e f =
-    let a : admits s.groups.awaited s.groups.seen g ≡ allowed above g = admits_by s.groups.awaited s.groups.seen above g (c.marks.each g l h) ∙ ap (λ (o : Option ℕ). allowed_by o above g) c.next in
-    ap (allowed above) (sym e) ∙ sym (f ∙ a)
+pub admits_allowed : (s : Survey) (above : List Line) (p : List ℕ) (q : ReadLine) (k : Line) (b : Bool) → Counted s above → line_read p ≡ got k [] → q ≡ line_of k → b ≡ admits s.groups.awaited s.groups.seen q.group → allowed above k.group ≡ b
+admits_allowed s above p q k b c r e f =
+    let g : q.group ≡ k.group = ap (λ (o : ReadLine). o.group) e in
+    let w = group_letter p k r in
+    let a : admits s.groups.awaited s.groups.seen k.group ≡ allowed above k.group = admits_by s.groups.awaited s.groups.seen above k.group (c.marks.each k.group w.0 w.1) ∙ ap (λ (o : Option ℕ). allowed_by o above k.group) c.next in
+    sym (f ∙ (ap (admits s.groups.awaited s.groups.seen) g ∙ a))
 
 -- the marks with one line more
 noted : (s : List Bool) (a k : ℕ) → 65 ≤ a → a ≤ 90 → 65 ≤ k → k ≤ 90 → length s ≡ 26 → (b : Bool) → get_or s (k - 65) false ≡ b → get_or (set s (a - 65) true) (k - 65) false ≡ (eqb a k || b)
@@ -101,10 +102,10 @@ pub record Grown (s s' : Survey) (k : Line) : Type 0 where
   pub over : s'.over ≡ over_with s.over (leb (s.instructions + side_count k.side) 372) (s.lines + 1)
   pub last : s'.last ≡ Some k.group
 
-pub counted_more : (s s' : Survey) (above : List Line) (k : Line) → 65 ≤ k.group → k.group ≤ 90 → Counted s above → Grown s s' k → Counted s' (k ∷ above)
-counted_more s s' above k a b c g =
+pub counted_more : (s s' : Survey) (above : List Line) (p : List ℕ) (k : Line) → line_read p ≡ got k [] → Counted s above → Grown s s' k → Counted s' (k ∷ above)
+counted_more s s' above p k r c g =
     record {
-      marks = marks_more s.groups s'.groups above k a b c.marks g.seen;
+      marks = marks_more s.groups s'.groups above k (group_letter p k r).0 (group_letter p k r).1 c.marks g.seen;
       next = g.awaited;
       lines = omega (arith, c.lines, g.lines);
       last = g.last;
@@ -112,33 +113,15 @@ counted_more s s' above k a b c g =
       words = λ cs below. ap (λ (o : Program). length (code_words cs None o)) (reverse_onto k above below) ∙ (c.words cs (k ∷ below) ∙ (let h : cond {A = ℕ} (same_group s.last k.group) 0 1 ≡ cond (same_group (last_group above) k.group) 0 1 = ap (λ (o : Option ℕ). cond (same_group o k.group) 0 1) c.last in omega (arith, code_length cs (last_group above) k below, g.heads, g.instructions)));
     }
 
--- a line that was read has a letter for its group
-pub group_letter : (p : List ℕ) (q : LineParts) (l : Line) → line_read p ≡ got l [] → q ≡ line_parts l → (65 ≤ q.group) × (q.group ≤ 90)
-group_letter p q l e f =
-    let w = (lines_written p [] l (read_short p [] l e).1).0.group in
-    let g : q.group ≡ l.group = ap (λ (o : LineParts). o.group) f in
-    (omega (arith, w.0), omega (arith, w.1))
-
 -- what the code does with the parts of a line is what is to be done with the line
-pub grown : (s s' : Survey) (q : LineParts) (l : Line) (n : ℕ) → q ≡ line_parts l → n ≡ side_count l.side → s'.groups.seen ≡ set s.groups.seen (q.group - 65) true → s'.groups.awaited ≡ cond (closes q.target) None (Some q.group) → s'.lines ≡ s.lines + 1 → s'.instructions ≡ s.instructions + n → s'.heads ≡ s.heads + cond (same_group s.last q.group) 0 1 → s'.over ≡ over_with s.over (leb (s.instructions + n) 372) (s.lines + 1) → s'.last ≡ Some q.group → Grown s s' l
+pub grown : (s s' : Survey) (q : ReadLine) (l : Line) (n : ℕ) → q ≡ line_of l → n ≡ side_count l.side → s'.groups.seen ≡ set s.groups.seen (q.group - 65) true → s'.groups.awaited ≡ cond (closes q.target) None (Some q.group) → s'.lines ≡ s.lines + 1 → s'.instructions ≡ s.instructions + n → s'.heads ≡ s.heads + cond (same_group s.last q.group) 0 1 → s'.over ≡ over_with s.over (leb (s.instructions + n) 372) (s.lines + 1) → s'.last ≡ Some q.group → Grown s s' l
 grown s s' q l n e f a b c d h o z =
     record {
-      seen = a ∙ ap (λ (k : LineParts). set s.groups.seen (k.group - 65) true) e;
-      awaited = b ∙ ap (λ (k : LineParts). cond (closes k.target) None (Some k.group)) e;
+      seen = a ∙ ap (λ (k : ReadLine). set s.groups.seen (k.group - 65) true) e;
+      awaited = b ∙ ap (λ (k : ReadLine). cond (closes k.target) None (Some k.group)) e;
       lines = c;
       instructions = d ∙ ap (λ (k : ℕ). s.instructions + k) f;
-      heads = h ∙ ap (λ (k : LineParts). s.heads + cond (same_group s.last k.group) 0 1) e;
+      heads = h ∙ ap (λ (k : ReadLine). s.heads + cond (same_group s.last k.group) 0 1) e;
       over = o ∙ ap (λ (k : ℕ). over_with s.over (leb (s.instructions + k) 372) (s.lines + 1)) f;
-      last = z ∙ ap (λ (k : LineParts). Some k.group) e;
+      last = z ∙ ap (λ (k : ReadLine). Some k.group) e;
     }
-
--- the instructions of a line
-pub pair_count : (s : Side) (d : kinds.SideKind) (os : List Operation) (n : ℕ) → d ≡ side_kind s → d ≡ Pair → os ≡ side_operations s → n ≡ length os → n ≡ side_count s
-pair_count reading d os n a b e f = let z : ◌≡◌ {A = ℕ} 0 1 = cc in absurd (omega arith)
-pair_count (single x) d os n a b e f = let z : ◌≡◌ {A = ℕ} 0 1 = cc in absurd (omega arith)
-pair_count (both l s r) d os n a b e f = f ∙ ap length e
-
-pub one_count : (s : Side) (d : kinds.SideKind) → d ≡ side_kind s → (d ≡ Pair → ⊥) → 1 ≡ side_count s
-one_count reading d a b = refl
-one_count (single x) d a b = refl
-one_count (both l s r) d a b = absurd (b a)

@@ -1,9 +1,11 @@
 pub mod Lines
+pub mod Given
 pub mod Held
 pub mod Onward
 pub mod Counted
 pub mod Scan
-pub mod Kept
+pub mod Mentioned
+pub mod Rewritten
 pub mod Put
 pub mod Planned
 pub mod Meant

@@ -5,7 +5,7 @@ use Rattle.rules.specs.Refusals.{reported}
 use Rattle.rules.specs.Texts.{cut}
 use Rattle.rules.specs.Words.{tape_of}
 use Rattle.rules.specs.Compiled.{compiled, tape, refuse}
-use Rattle.compiler.specs.declared.plan.Plan.{Plan}
+use Rattle.compiler.specs.declared.compiling.Plan.{Plan}
 use Rattle.compiler.specs.Held.{table}
 use Rattle.compiler.specs.Lines.{read_lines, Readable}
 

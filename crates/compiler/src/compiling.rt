@@ -3,12 +3,19 @@ ghost use Rattle.rules.specs.Compiled.{compiled, told, answered, buffered};
 ghost use Rattle.compiler.specs.Meant.{Meant};
 ghost use Rattle.compiler.specs.Planned.{Planned};
 
-use crate::inventory::take_inventory;
-use crate::plan::Plan;
-use crate::surveying::survey;
-use crate::writing::put_tape;
+use crate::constants::Constants;
+use crate::inventory::{check_letters, take_constants};
+use crate::survey::Survey;
+use crate::tape_writer::put_tape;
 use rules::limits::TEXT_LIMIT;
 use rules::refusal::TextRefusal;
+
+// The constants of an accepted text, and the length of its tape.
+#[derive(Drop)]
+struct Plan {
+    constants: Constants,
+    length: usize,
+}
 
 // Judges a text: every refusal but that of a short buffer, in their order.
 fn plan_of(text: &[u8]) -> Result<Plan, TextRefusal>
@@ -17,19 +24,14 @@ fn plan_of(text: &[u8]) -> Result<Plan, TextRefusal>
     if text.len() > TEXT_LIMIT {
         return Err(TextRefusal::TextTooLong);
     }
-    let found = survey(text)?;
-    let inventory = take_inventory(text, &found.groups)?;
-    if let Some(refusal) = inventory.past {
-        return Err(refusal);
-    }
+    let found = Survey::of(text)?;
+    check_letters(text, &found.groups)?;
+    let constants = take_constants(text)?;
     if let Some(line) = found.over {
         return Err(TextRefusal::TooManyInstructions { line });
     }
-    let length = 2 * inventory.constants.as_slice().len() + found.heads + found.instructions + 1;
-    Ok(Plan {
-        constants: inventory.constants,
-        length,
-    })
+    let length = 2 * constants.as_slice().len() + found.heads + found.instructions + 1;
+    Ok(Plan { constants, length })
 }
 
 // Compiles a text to its tape, at the front of the buffer; how many words that is. On a refusal the buffer is untouched.

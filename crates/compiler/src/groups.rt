@@ -1,15 +1,16 @@
 ghost use Rattle.std.specs.Prelude.{◌≡◌, ◌-◌, ◌≤◌, true, false, not, replicate, is_some, if◌then◌else◌, Some, None, slice_index_or, slice_set};
-ghost use Rattle.rules.specs.Reading.{between};
 ghost use Rattle.rules.specs.Texts.{closes as closes_of};
 ghost use Rattle.compiler.specs.Onward.{admits as admits_of};
+ghost use Rattle.compiler.specs.Mentioned.{lacks};
 
 use rules::formula::Target;
+use rules::ranged::Letter;
 
 // The letters that have a group, and the only letter that may come next, none where any new one may.
 #[derive(Drop)]
 pub(crate) struct Groups {
     pub(crate) seen: [bool; 26],
-    pub(crate) awaited: Option<u8>,
+    pub(crate) awaited: Option<Letter>,
 }
 
 impl Groups {
@@ -18,26 +19,21 @@ impl Groups {
     {
         Groups {
             seen: [false; 26],
-            awaited: Some(b'A'),
+            awaited: Letter::try_from(u64::from(b'A')).ok(),
         }
     }
 
-    fn has(&self, letter: u8) -> bool
-        requires { (65 ≤ letter) × (letter ≤ 90) }
+    fn has(&self, letter: Letter) -> bool
         ensures { result ≡ slice_index_or self.now.seen (letter - 65) false }
     {
-        self.seen[(letter - b'A') as usize]
+        self.seen[letter.index()]
     }
 
     // Whether the byte is a letter without group.
     pub(crate) fn lacks(&self, byte: u8) -> bool
-        ensures { result ≡ (if between 65 90 byte then not (slice_index_or self.now.seen (byte - 65) false) else false) }
+        ensures { result ≡ lacks self.now byte }
     {
-        if byte < b'A' || byte > b'Z' {
-            false
-        } else {
-            !self.has(byte)
-        }
+        Letter::try_from(u64::from(byte)).is_ok_and(|letter| !self.has(letter))
     }
 
     pub(crate) fn all_closed(&self) -> bool
@@ -47,8 +43,7 @@ impl Groups {
     }
 
     // Whether a line of this group may come next.
-    pub(crate) fn admits(&self, letter: u8) -> bool
-        requires { (65 ≤ letter) × (letter ≤ 90) }
+    pub(crate) fn admits(&self, letter: Letter) -> bool
         ensures { result ≡ admits_of self.now.awaited self.now.seen letter }
     {
         match self.awaited {
@@ -57,12 +52,11 @@ impl Groups {
         }
     }
 
-    pub(crate) fn note(&mut self, letter: u8, target: Target)
-        requires { (65 ≤ letter) × (letter ≤ 90) }
+    pub(crate) fn note(&mut self, letter: Letter, target: Target)
         ensures seen { self.new.seen ≡ slice_set self.old.seen (letter - 65) true }
         ensures awaited { self.new.awaited ≡ (if closes_of target then None else Some letter) }
     {
-        self.seen[(letter - b'A') as usize] = true;
+        self.seen[letter.index()] = true;
         self.awaited = match target {
             Target::Place => None,
             _ => Some(letter),

@@ -3,14 +3,11 @@
 
 mod compiling;
 mod constants;
-mod cutting;
 mod groups;
 mod inventory;
-mod noting;
-mod plan;
+mod lines;
 mod survey;
-mod surveying;
+mod tape_writer;
 mod words;
-mod writing;
 
 pub use compiling::compile;

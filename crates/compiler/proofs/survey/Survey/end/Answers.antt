@@ -1,14 +1,23 @@
-use Rattle.compiler.proofs.Surveys.{long_end, some_end, open_end, closed_end}
+use Rattle.std.proofs.Common.{◌<◌, ◌≤◌, length, arith}
+use Rattle.std.proofs.lemmas.Bool.Decides.{nat_tests}
+use Rattle.compiler.proofs.Surveys.{left_end, open_end, closed_end}
 use Rattle.compiler.proofs.survey.Survey.end.Goals as goal
 
-pub returns-then-rest-gt-LINE_LIMIT : goal.returns-then-rest-gt-LINE_LIMIT
-returns-then-rest-gt-LINE_LIMIT c = λ above k. long_end _ above _ c.if-rest-gt-LINE_LIMIT.true k.lines
-
-pub returns-then-rest-gt0 : goal.returns-then-rest-gt0
-returns-then-rest-gt0 c = λ above k. some_end _ above _ c.if-rest-gt0.true c.if-rest-gt-LINE_LIMIT.false k.lines
+pub returns-then-not-is_empty : goal.returns-then-not-is_empty
+returns-then-not-is_empty c = λ above k.
+    let e = c.if-not-is_empty.ensures in
+    let m = c.min-place.ensures in
+    let h : 0 < length c.args.rest.now = grind (arith, nat_tests) in
+    rw (c.at.ensures, m) (left_end c.args.rest.now above c.args.self.now.lines h k.lines)
 
 pub returns-then-not-all_closed : goal.returns-then-not-all_closed
-returns-then-not-all_closed c = λ above k. open_end _ above _ _ c.if-rest-gt0.false k.lines k.next c.if-not-all_closed.ensures
+returns-then-not-all_closed c = λ above k.
+    let e = c.if-not-is_empty.ensures in
+    let h : length c.args.rest.now ≤ 0 = grind (arith, nat_tests) in
+    open_end c.args.rest.now above _ _ h k.lines k.next c.if-not-all_closed.ensures
 
 pub returns : goal.returns
-returns c = λ above k. closed_end _ above _ c.if-rest-gt0.false k.next c.if-not-all_closed.ensures
+returns c = λ above k.
+    let e = c.if-not-is_empty.ensures in
+    let h : length c.args.rest.now ≤ 0 = grind (arith, nat_tests) in
+    closed_end c.args.rest.now above _ h k.next c.if-not-all_closed.ensures

@@ -1,9 +1,0 @@
-use Rattle.std.proofs.Common.{◌∷◌, ap, ◌∙◌, arith}
-use Rattle.rules.specs.Texts.{Text, cut, parsed_from}
-use Rattle.compiler.proofs.surveying.survey.Goals as goal
-
-pub loop-bytes-preserved : goal.loop-bytes-preserved
-loop-bytes-preserved c =
-    let i = c.loop-bytes.invariant.1 in
-    let o = c.in_ok-add.ensures.reads i.0 (cut c.in-Some.after.now) i.2 in
-    (omega (arith, c.loop-bytes.invariant.0, c.in-Some.ensures.shorter, c.in_ok-add.ensures.lines), (o.0 ∷ i.0, i.1 ∙ (ap (λ (t : Text). parsed_from t i.0) c.in-Some.ensures.cuts ∙ o.1), o.2))
