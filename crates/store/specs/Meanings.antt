@@ -9,7 +9,7 @@ abbrev pub word_cells : WordCells → List ℕ
 word_cells s = s.table.words
 
 abbrev pub packed_cells : PackedCells → List ℕ
-packed_cells s = cells_in s.table.bytes
+packed_cells s = cells_in s.table.rows
 
 -- the bytes of a cell are its number, packed; 15 where there is no such cell
 abbrev pub packed_cell : List ℕ → ℕ → Result (List ℕ) ℕ

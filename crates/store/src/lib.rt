@@ -3,8 +3,6 @@
 
 ghost use Rattle.store.specs.Examples.{Examples};
 
-pub mod by_digits;
-pub mod by_words;
 pub mod clearing;
 pub mod packed_cells;
 pub(crate) mod packed_table;

@@ -1,58 +1,46 @@
-ghost use Rattle.std.specs.Prelude.{◌≡◌, ◌<◌, length, replicate, slice_index, slice_set};
-ghost use Rattle.rules.specs.Stores.{cell_count, number_limit};
-ghost use Rattle.store.specs.Packing.{Packed, byte_count, bytes_at, cell_bytes, cells_in, packed};
+ghost use Rattle.std.specs.Prelude.{◌≡◌, replicate, slice_index, slice_set};
+ghost use Rattle.rules.specs.Stores.{cell_count};
+ghost use Rattle.store.specs.Packing.{Packed, cell_bytes, cells_in, packed};
 
 use crate::packing::{CELL_BYTES, pack, unpack};
+use rules::limits::CELL_COUNT;
 use rules::ranged::{Address, Number};
 
-const BYTE_COUNT: usize = 7_000;
-
-// A plain table of bytes, seven to a cell. Its type says nothing of what the bytes may be.
+// A plain table of rows of bytes, one to a cell. Its type says nothing of what the bytes may be, so each call is told.
 #[derive(Drop)]
 pub(crate) struct PackedTable {
-    bytes: [u8; BYTE_COUNT],
+    rows: [[u8; CELL_BYTES]; CELL_COUNT],
 }
 
 impl PackedTable {
     pub(crate) fn new() -> PackedTable
-        ensures { result.bytes ≡ replicate byte_count 0 }
+        ensures { result.rows ≡ replicate cell_count (replicate cell_bytes 0) }
     {
         PackedTable {
-            bytes: [0; BYTE_COUNT],
+            rows: [[0; CELL_BYTES]; CELL_COUNT],
         }
-    }
-
-    fn part(&self, address: Address) -> &[u8]
-        requires { length self.now.bytes ≡ byte_count }
-        ensures { result.now ≡ bytes_at self.now.bytes address }
-    {
-        let start = CELL_BYTES * address.index();
-        &self.bytes[start..start + CELL_BYTES]
     }
 
     // The bytes of a cell.
     pub(crate) fn bytes(&self, address: Address) -> [u8; CELL_BYTES]
-        requires { Packed self.now.bytes }
-        ensures { result ≡ packed cell_bytes (slice_index (cells_in self.now.bytes) address) }
+        requires { Packed self.now.rows }
+        ensures { result ≡ packed cell_bytes (slice_index (cells_in self.now.rows) address) }
     {
-        let mut bytes = [0; CELL_BYTES];
-        bytes.copy_from_slice(self.part(address));
-        bytes
+        self.rows[address.index()]
     }
 
     pub(crate) fn get(&self, address: Address) -> u64
-        requires { Packed self.now.bytes }
-        ensures { result ≡ slice_index (cells_in self.now.bytes) address }
+        requires { Packed self.now.rows }
+        ensures { result ≡ slice_index (cells_in self.now.rows) address }
     {
-        unpack(self.part(address))
+        unpack(self.rows[address.index()])
     }
 
     pub(crate) fn put(&mut self, address: Address, number: Number)
-        requires { Packed self.old.bytes }
-        ensures after { cells_in self.new.bytes ≡ slice_set (cells_in self.old.bytes) address number }
-        ensures sound { Packed self.new.bytes }
+        requires { Packed self.old.rows }
+        ensures after { cells_in self.new.rows ≡ slice_set (cells_in self.old.rows) address number }
+        ensures sound { Packed self.new.rows }
     {
-        let start = CELL_BYTES * address.index();
-        self.bytes[start..start + CELL_BYTES].copy_from_slice(&pack(number.get()));
+        self.rows[address.index()] = pack(number.get());
     }
 }

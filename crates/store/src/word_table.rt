@@ -1,11 +1,11 @@
-ghost use Rattle.std.specs.Prelude.{◌≡◌, ◌<◌, replicate, slice_index, slice_set};
-ghost use Rattle.rules.specs.Stores.{cell_count, number_limit};
+ghost use Rattle.std.specs.Prelude.{◌≡◌, length, replicate, slice_index, slice_set};
+ghost use Rattle.rules.specs.Stores.{cell_count};
 ghost use Rattle.store.specs.Ranges.{Cells};
 
 use rules::limits::CELL_COUNT;
 use rules::ranged::{Address, Number};
 
-// A plain table of words. Its type says nothing of what the words may be.
+// A plain table of words. Its type says nothing of what the words may be, so each call is told.
 #[derive(Drop)]
 pub(crate) struct WordTable {
     words: [u64; CELL_COUNT],

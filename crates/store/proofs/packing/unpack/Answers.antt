@@ -10,7 +10,7 @@ overflow_mul-number c = let f = few_pairs c.loop-byte.number c.loop-byte.byte-in
 pub overflow_add-number : goal.overflow_add-number
 overflow_add-number c =
     let f = few_pairs c.loop-byte.number c.loop-byte.byte-index (omega arith) c.loop-byte.invariant.1 in
-    let d = c.requires.digits c.loop-byte.byte-index in
+    let d = c.requires.1 c.loop-byte.byte-index 0 (omega (arith, c.requires.0)) in
     omega arith
 
 -- one byte more is read
@@ -20,8 +20,8 @@ turn bytes n p i h d e f b =
 
 pub loop-byte-preserved : goal.loop-byte-preserved
 loop-byte-preserved c =
-    turn _ c.loop-byte.number _ c.loop-byte.byte-index c.loop-byte-test.true (c.requires.digits c.loop-byte.byte-index) c.split_digits.ensures c.loop-byte.invariant.0 c.loop-byte.invariant.1
+    turn _ c.loop-byte.number _ c.loop-byte.byte-index (omega (arith, c.requires.0)) (c.requires.1 c.loop-byte.byte-index 0 (omega (arith, c.requires.0))) c.split_digits.ensures c.loop-byte.invariant.0 c.loop-byte.invariant.1
 
 pub returns : goal.returns
 returns c =
-    sym (at_drop_all (unpacked_on c.loop-byte.number) _ c.loop-byte.byte-index c.loop-byte-test.false) ∙ c.loop-byte.invariant.0
+    sym (at_drop_all (unpacked_on c.loop-byte.number) _ c.loop-byte.byte-index (omega (arith, c.requires.0))) ∙ c.loop-byte.invariant.0

@@ -1,9 +1,8 @@
-use Rattle.std.proofs.Common.{sym, ◌∙◌}
-use Rattle.store.specs.Cellwise.{part_packed}
+use Rattle.std.proofs.Common.{◌≡◌, get_or, ap, ◌∙◌, [], arith}
+use Rattle.store.specs.Cellwise.{row_packed}
 use Rattle.store.proofs.packed_table.PackedTable.bytes.Goals as goal
 
-pub copy_from_slice-requires : goal.copy_from_slice-requires
-copy_from_slice-requires c = sym (part_packed _ _ c.args.address c.requires.sound c.requires.cell c.part.ensures).1
-
 pub returns : goal.returns
-returns c = c.copy_from_slice.ensures.after ∙ (part_packed _ _ c.args.address c.requires.sound c.requires.cell c.part.ensures).0
+returns c =
+    let at : c.index.result ≡ c.args.address = omega (arith, c.index.ensures) in
+    ap (λ a. get_or c.args.self.now.rows a []) at ∙ row_packed _ c.args.address c.requires (omega (arith, c.index.ensures))

@@ -1,15 +1,12 @@
-use Rattle.std.proofs.Common.{◌≡◌, ℕ, List, get_or, sym, ap, ◌∙◌, arith}
-use Rattle.store.specs.Packing.{TwoDigits, bytes_at, unpacked}
-use Rattle.store.specs.Cellwise.{cell_at, digits_part, part_packed}
+use Rattle.std.proofs.Common.{◌≡◌, get_or, sym, ap, ◌∙◌, [], arith}
+use Rattle.store.specs.Packing.{unpacked}
+use Rattle.store.specs.Cellwise.{cell_at}
 use Rattle.store.proofs.packed_table.PackedTable.get.Goals as goal
 
-digits : (bs part : List ℕ) (a : ℕ) → part ≡ bytes_at bs a → ((i : ℕ) → TwoDigits (get_or bs i 0)) → (i : ℕ) → TwoDigits (get_or part i 0)
-digits bs part a e d i = rw e (digits_part bs a d i)
-
 pub unpack-requires : goal.unpack-requires
-unpack-requires c =
-    let l = (part_packed _ _ c.args.address c.requires.sound c.requires.cell c.part.ensures).1 in
-    record { few = omega arith; digits = digits _ _ c.args.address c.part.ensures c.requires.sound.1 }
+unpack-requires c = c.requires.1 c.index.result [] (omega (arith, c.index.ensures, c.requires.0))
 
 pub returns : goal.returns
-returns c = c.unpack.ensures ∙ ap unpacked c.part.ensures ∙ sym (cell_at _ c.args.address c.requires.cell)
+returns c =
+    let at : c.index.result ≡ c.args.address = omega (arith, c.index.ensures) in
+    c.unpack.ensures ∙ ap (λ a. unpacked (get_or c.args.self.now.rows a [])) at ∙ sym (cell_at _ c.args.address)

@@ -1,17 +1,13 @@
-use Rattle.std.proofs.Common.{◌≡◌, ℕ, ◌*◌, ◌<◌, List, set, sym, refl, ap, ◌∙◌, subst, arith}
-use borrow.Rule.Slice.PartMut.{put_mid}
-use Rattle.rules.specs.Stores.{cell_count, number_limit}
-use Rattle.store.specs.Packing.{Packed, cell_bytes, cells_in, packed, replaced}
-use Rattle.store.specs.Cellwise.{cells_replaced, packed_replaced}
+use Rattle.std.proofs.Common.{◌≡◌, ℕ, ◌<◌, List, set, arith}
+use Rattle.rules.specs.Stores.{number_limit}
+use Rattle.store.specs.Packing.{Packed, cell_bytes, cells_in, packed}
+use Rattle.store.specs.Cellwise.{cells_written, packed_written}
 use Rattle.store.proofs.packed_table.PackedTable.put.Goals as goal
 
--- the part of the table that is written is the cell's seven bytes
-put : (bs ws : List ℕ) (a k n : ℕ) → k ≡ cell_bytes → ws ≡ packed cell_bytes n → Packed bs → a < cell_count → n < number_limit → (cells_in (put_mid (cell_bytes * a) k bs ws) ≡ set (cells_in bs) a n) × Packed (put_mid (cell_bytes * a) k bs ws)
-put bs ws a k n e w p h s =
-    let same : put_mid (cell_bytes * a) k bs ws ≡ replaced bs a (packed cell_bytes n) = rw (e, w) refl in
-    (ap cells_in same ∙ cells_replaced bs a n p.0 h s, subst Packed (sym same) (packed_replaced bs a n p h))
+put : (rows : List (List ℕ)) (row : List ℕ) (i a n m : ℕ) → i ≡ a → m ≡ n → n < number_limit → row ≡ packed cell_bytes m → Packed rows → (cells_in (set rows i row) ≡ set (cells_in rows) a n) × Packed (set rows i row)
+put rows row i a n m at same small e p = rw (e, at, same) (cells_written rows a n small, packed_written rows a n p)
 
 pub returns : goal.returns
 returns c =
-    let r = put _ _ c.args.address _ c.args.number (omega arith) (c.copy_from_slice.ensures.after ∙ c.pack.ensures) c.requires.sound c.requires.cell c.requires.small in
+    let r = put _ _ c.index.result c.args.address c.args.number c.get.result (omega (arith, c.index.ensures)) c.get.ensures.value (omega (arith, c.get.ensures)) c.pack.ensures c.requires in
     record { after = r.0; sound = r.1 }
