@@ -4,6 +4,7 @@ ghost use Rattle.bench.specs.Showing.{row_text};
 
 use crate::call::Call;
 use crate::devices::Devices;
+use crate::showing::Shown;
 use std::alloc::{AllocError, Global};
 
 // Whether two benches answer a call alike.
@@ -24,9 +25,7 @@ pub fn alike<A: Devices, B: Devices>(a: &mut A, b: &mut B, calls: &[Call]) -> us
 {
     let mut same = 0;
     for call in calls {
-        if both(a, b, *call) {
-            same += 1;
-        }
+        same += usize::from(both(a, b, *call));
     }
     same
 }
@@ -42,7 +41,7 @@ pub fn row<A: Devices, B: Devices>(
     ensures first { A.Devices.means a.new ≡ left (A.Devices.means a.old) call }
     ensures second { B.Devices.means b.new ≡ left (B.Devices.means b.old) call }
 {
-    let x = a.ask(call);
-    let y = b.ask(call);
+    let x = Shown(a.ask(call));
+    let y = Shown(b.ask(call));
     format!(in heap; "{call}: {x} | {y}")
 }
