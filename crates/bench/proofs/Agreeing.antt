@@ -1,12 +1,11 @@
 -- Benches that mean the same agree on every call.
 use Rattle.std.specs.Prelude.{Ok, Err, Result}
-use Rattle.std.proofs.Common.{◌≡◌, ℕ, ◌+◌, ◌<◌, Bool, true, List, [], ◌∷◌, length, get_or, drop, sym, refl, ap, ◌∙◌, arith}
-use Rattle.std.proofs.lemmas.List.{at_drop_more}
+use Rattle.std.proofs.Common.{◌≡◌, ℕ, true, List, [], ◌∷◌, length, refl, ap, ◌∙◌, arith}
 use Rattle.std.proofs.lemmas.Bool.{eq-eqb}
 use Rattle.bench.specs.declared.call.Call.{Call}
 use Rattle.bench.specs.declared.call.Reply.{Reply}
 use Rattle.bench.specs.declared.call.Reply.TheVariants.{Done, Number, Nothing}
-use Rattle.bench.specs.Benches.{Meaning, agreements, answered, left, left_all, one_if, same_answer}
+use Rattle.bench.specs.Benches.{Meaning, agreements, answered, left, one_if, same_answer}
 
 same_self : (x : Result Reply ℕ) → same_answer x x ≡ true
 same_self (Ok Done) = refl

@@ -23,6 +23,7 @@ pub fn alike<A: Devices, B: Devices>(a: &mut A, b: &mut B, calls: &[Call]) -> us
     ensures first { A.Devices.means a.new ≡ left_all (A.Devices.means a.old) calls.now }
     ensures second { B.Devices.means b.new ≡ left_all (B.Devices.means b.old) calls.now }
 {
+    // a loop, and no filter that counts: what a closure does to the benches is not known once the iterator is used up
     let mut same = 0;
     for call in calls {
         same += usize::from(both(a, b, *call));
