@@ -63,15 +63,3 @@ pub static LABEL_FULL: [Call; 10] = [
 
 // A label line of two codes.
 pub static LABEL_COPIED: [Call; 4] = [Call::Count, Call::Code(1), Call::Code(2), Call::Code(3)];
-
-// Rows of many like calls: a number of its own into every cell, and every cell; numbers from 1 on into a queue, and looking at
-// each waiting number and taking it; codes up to the greatest onto a label, and every code.
-#[derive(Clone, Copy)]
-pub enum Many {
-    FillStore,
-    ReadStore,
-    FillQueue,
-    TakeAll,
-    FillLabel,
-    ReadLabel,
-}
