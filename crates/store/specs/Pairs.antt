@@ -1,8 +1,7 @@
 -- Numbers in packed decimal: packing and unpacking undo each other, pair by pair from the last.
-use Rattle.std.specs.Prelude.{◌≡◌, ℕ, zero, suc, ◌+◌, ◌-◌, ◌*◌, ◌/◌, ◌%◌, ◌^◌, ◌<◌, ◌≤◌, List, [], ◌∷◌, ◌++◌, reverse, length, take, drop, slice_index, slice_index_or, slice_set, All, refl}
-use Rattle.std.proofs.Common.{pow-suc, add-one, arith, sym, ap, ◌∙◌, append_assoc}
-use Rattle.std.proofs.Math.Nat.{pow-le-pow_right}
-use Rattle.std.proofs.lemmas.List.{take_more, take_more_set, take_all, reverse-append, length-take-le, length_push, at_drop_more, nil_from_length}
+use Rattle.std.specs.Prelude.{◌≡◌, ℕ, zero, suc, ◌+◌, ◌-◌, ◌*◌, ◌/◌, ◌%◌, ◌^◌, ◌<◌, ◌≤◌, List, [], ◌∷◌, ◌++◌, reverse, length, take, slice_index, slice_index_or, slice_set, All, refl}
+use Rattle.std.proofs.Common.{pow-suc, arith, sym, ap, ◌∙◌, append_assoc}
+use Rattle.std.proofs.lemmas.List.{take_more, take_more_set, take_all, reverse-append, length-take-le, length_push, nil_from_length}
 use Rattle.std.proofs.lemmas.List.Elements.{All-push, All-take}
 use Rattle.store.specs.Packing.{IsPacked, TwoDigits, cell_bytes, packed, pair_byte, pair_in, unpacked, unpacked_on}
 
@@ -47,20 +46,6 @@ is_packed n = (length_packed cell_bytes n, digits_packed cell_bytes n)
 unpacked_push : (n b : ℕ) (bs : List ℕ) → unpacked_on n (bs ++ (b ∷ [])) ≡ unpacked_on n bs * 100 + pair_in b
 unpacked_push n b [] = refl
 unpacked_push n b (x ∷ bs) = unpacked_push (n * 100 + pair_in x) b bs
-
-pub unpack_step : (bytes : List ℕ) (n i : ℕ) → i < length bytes → unpacked_on n (drop i bytes) ≡ unpacked_on (n * 100 + pair_in (slice_index bytes i)) (drop (i + 1) bytes)
-unpack_step bytes n i h = at_drop_more (unpacked_on n) bytes i 0 h
-
--- so many pairs are a number of twice so many digits
-pub pair_more : (n p i : ℕ) → p < 100 → n < 100 ^ i → n * 100 + p < 100 ^ (i + 1)
-pair_more n p i h k = rw (add-one, pow-suc) (omega arith)
-
-pub few_pairs : (n i : ℕ) → i < 7 → n < 100 ^ i → n < 100 ^ 6
-few_pairs n i h k =
-    let base : 0 < 100 = omega arith in
-    let most : i ≤ 6 = omega arith in
-    let m : 100 ^ i ≤ 100 ^ 6 = pow-le-pow_right base most in
-    omega arith
 
 -- ### each undoes the other
 

@@ -1,4 +1,4 @@
-ghost use Rattle.std.specs.Prelude.{◌≡◌, length, replicate, slice_index, slice_set};
+ghost use Rattle.std.specs.Prelude.{◌≡◌, replicate, slice_index, slice_set};
 ghost use Rattle.rules.specs.Stores.{cell_count};
 ghost use Rattle.store.specs.Ranges.{Cells};
 
@@ -21,7 +21,6 @@ impl WordTable {
     }
 
     pub(crate) fn get(&self, address: Address) -> u64
-        requires { length self.now.words ≡ cell_count }
         ensures { result ≡ slice_index self.now.words address }
     {
         self.words[address.index()]

@@ -3,9 +3,6 @@ use Rattle.store.specs.Packing.{unpacked}
 use Rattle.store.specs.Cellwise.{cell_at}
 use Rattle.store.proofs.packed_table.PackedTable.get.Goals as goal
 
-pub unpack-requires : goal.unpack-requires
-unpack-requires c = c.requires.1 c.index.result [] (omega (arith, c.index.ensures, c.requires.0))
-
 pub returns : goal.returns
 returns c =
     let at : c.index.result ≡ c.args.address = omega (arith, c.index.ensures) in
