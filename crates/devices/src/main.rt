@@ -46,10 +46,10 @@ fn count(rt: &HostRuntime, benches: &mut Benches, what: &str, many: Many) -> any
 
 fn stores(rt: &HostRuntime, benches: &mut Benches) -> anyhow::Result<()> {
     rt.println("store: 64-bit words | packed decimal")?;
-    show(rt, benches, &exercise::STORE_LIMITS)?;
+    show(rt, benches, exercise::STORE_LIMITS)?;
     count(rt, benches, "fill every cell", Many::FillStore)?;
     count(rt, benches, "read every cell", Many::ReadStore)?;
-    show(rt, benches, &exercise::STORE_FILLED)
+    show(rt, benches, exercise::STORE_FILLED)
 }
 
 // Fills and empties the queues many times.
@@ -68,22 +68,22 @@ fn rounds(rt: &HostRuntime, benches: &mut Benches) -> anyhow::Result<()> {
 
 fn queues(rt: &HostRuntime, benches: &mut Benches) -> anyhow::Result<()> {
     rt.println("readings: ring of words | digits and commas")?;
-    show(rt, benches, &exercise::QUEUE_EMPTY)?;
+    show(rt, benches, exercise::QUEUE_EMPTY)?;
     count(rt, benches, "fill the queue", Many::FillQueue)?;
-    show(rt, benches, &exercise::QUEUE_FULL)?;
-    show(rt, benches, &exercise::QUEUE_AGAIN)?;
+    show(rt, benches, exercise::QUEUE_FULL)?;
+    show(rt, benches, exercise::QUEUE_AGAIN)?;
     count(rt, benches, "take all", Many::TakeAll)?;
     rounds(rt, benches)?;
     count(rt, benches, "fill the queue", Many::FillQueue)?;
-    show(rt, benches, &exercise::QUEUE_FULL)
+    show(rt, benches, exercise::QUEUE_FULL)
 }
 
 fn labels(rt: &HostRuntime, benches: &mut Benches) -> anyhow::Result<()> {
     rt.println("label: one byte a code | digits and commas")?;
-    show(rt, benches, &exercise::LABEL_EMPTY)?;
+    show(rt, benches, exercise::LABEL_EMPTY)?;
     count(rt, benches, "fill the label", Many::FillLabel)?;
     count(rt, benches, "read the label", Many::ReadLabel)?;
-    show(rt, benches, &exercise::LABEL_FULL)
+    show(rt, benches, exercise::LABEL_FULL)
 }
 
 // What works on any kind: clearing a store, emptying a queue, copying a label line.
@@ -97,7 +97,7 @@ fn any_kind(rt: &HostRuntime, benches: &mut Benches) -> anyhow::Result<()> {
         "clear the store and read every cell",
         Many::ReadStore,
     )?;
-    show(rt, benches, &exercise::STORE_FILLED)?;
+    show(rt, benches, exercise::STORE_FILLED)?;
     let left = empty(&mut benches.first.readings);
     let right = empty(&mut benches.second.readings);
     println!(rt; "empty the queue: {left} | {right}")?;
@@ -106,7 +106,7 @@ fn any_kind(rt: &HostRuntime, benches: &mut Benches) -> anyhow::Result<()> {
     }
     copy(&benches.first.label, &mut benches.second.label);
     rt.println("print 72 and 105 on the first label, copy it to the second")?;
-    show(rt, benches, &exercise::LABEL_COPIED)
+    show(rt, benches, exercise::LABEL_COPIED)
 }
 
 fn run(rt: &HostRuntime) -> anyhow::Result<()> {
