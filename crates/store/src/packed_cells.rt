@@ -1,7 +1,7 @@
 ghost use Rattle.store.specs.Packing.{Packed};
 
-use crate::packed_table::PackedTable;
-use crate::packing::CELL_BYTES;
+use crate::packing::{CELL_BYTES, pack, unpack};
+use crate::table::Table;
 use crate::word_store::WordStore;
 use rules::ranged::{Address, Number};
 use rules::refusal::Refusal;
@@ -9,8 +9,8 @@ use rules::refusal::Refusal;
 // A store in packed decimal: seven bytes a cell, two digits a byte, the highest pair first.
 #[derive(Drop)]
 pub struct PackedCells {
-    table: PackedTable,
-    ghost sound: { Packed table.rows },
+    table: Table<[u8; CELL_BYTES]>,
+    ghost sound: { Packed table.cells },
 }
 
 impl PackedCells {
@@ -24,7 +24,7 @@ impl PackedCells {
         ensures { packed_cells result ≡ zeros }
     {
         PackedCells {
-            table: PackedTable::new(),
+            table: Table::filled([0; CELL_BYTES]),
         }
     }
 
@@ -33,7 +33,7 @@ impl PackedCells {
         ensures { numbered result ≡ packed_cell (packed_cells self.now) address }
     {
         let address = Address::try_from(address as u64)?;
-        Ok(self.table.bytes(address))
+        Ok(self.table.get(address))
     }
 }
 
@@ -43,15 +43,15 @@ impl WordStore for PackedCells {
 
     ghost cells = { packed_cells };
 
-    ghost sized = { λ s. cells_counted s.table.rows s.sound };
+    ghost sized = { λ s. cells_counted s.table.cells s.sound };
 
-    ghost below = { λ s. cells_below s.table.rows s.sound };
+    ghost below = { λ s. cells_below s.table.cells s.sound };
 
     fn get(&self, address: Address) -> u64 {
-        self.table.get(address)
+        unpack(self.table.get(address))
     }
 
     fn set(&mut self, address: Address, number: Number) {
-        self.table.put(address, number);
+        self.table.put(address, pack(number.get()));
     }
 }

@@ -1,14 +1,14 @@
 ghost use Rattle.store.specs.Ranges.{Cells};
 
+use crate::table::Table;
 use crate::word_store::WordStore;
-use crate::word_table::WordTable;
 use rules::ranged::{Address, Number};
 
 // A store of 64-bit words, one a cell.
 #[derive(Drop)]
 pub struct WordCells {
-    table: WordTable,
-    ghost sound: { Cells table.words },
+    table: Table<u64>,
+    ghost sound: { Cells table.cells },
 }
 
 impl WordCells {
@@ -21,7 +21,7 @@ impl WordCells {
         ensures { word_cells result ≡ zeros }
     {
         WordCells {
-            table: WordTable::new(),
+            table: Table::filled(0),
         }
     }
 }
@@ -41,6 +41,6 @@ impl WordStore for WordCells {
     }
 
     fn set(&mut self, address: Address, number: Number) {
-        self.table.put(address, number);
+        self.table.put(address, number.get());
     }
 }
