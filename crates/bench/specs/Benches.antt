@@ -1,13 +1,16 @@
 -- What three devices on a bench mean, and what each call comes to by the rules of the devices.
 use Rattle.std.specs.Prelude.{ℕ, ◌+◌, Bool, true, false, List, [], ◌∷◌, length, Some, None, Ok, Err, Option, Result, ◌==◌}
+use Rattle.rules.specs.Numbers.{refusal_number, cause_number}
 use Rattle.rules.specs.Calls.{answer_of, left_by}
 use Rattle.rules.specs.Stores.{loaded, stored}
 use Rattle.rules.specs.Queues.{first_waiting, dropped, added}
 use Rattle.rules.specs.Labels.{code_at, printed}
 use Rattle.bench.specs.declared.call.Call.{Call}
 use Rattle.bench.specs.declared.call.Call.TheVariants as c
-use Rattle.bench.specs.declared.call.Answer as answers
-use Rattle.bench.specs.declared.call.Answer.TheVariants as a
+use Rattle.bench.specs.declared.call.Reply as replies
+use Rattle.bench.specs.declared.call.Reply.TheVariants as r
+use Rattle.bench.specs.declared.call.Denial.{Denial}
+use Rattle.bench.specs.declared.call.Denial.TheVariants.{Refused, Stopped}
 
 -- the cells, the waiting readings, the codes
 pub record Meaning : Type 0 where
@@ -18,27 +21,37 @@ pub record Meaning : Type 0 where
 abbrev pub meaning : List ℕ → List ℕ → List ℕ → Meaning
 meaning cs ws ls = record { cells = cs; waiting = ws; codes = ls }
 
-abbrev pub number : Result ℕ ℕ → answers.Answer
-number (Ok n) = a.Number n
-number (Err e) = a.Refused e
+-- the number of a denial
+abbrev pub denial_number : Denial → ℕ
+denial_number (Refused refusal) = refusal_number refusal
+denial_number (Stopped cause) = cause_number cause
 
-abbrev pub done : Result (Unit {0}) ℕ → answers.Answer
-done (Ok x) = a.Done
-done (Err e) = a.Refused e
+-- an answer by its denial's number
+abbrev pub by_number : Result replies.Reply Denial → Result replies.Reply ℕ
+by_number (Ok x) = Ok x
+by_number (Err d) = Err (denial_number d)
 
-abbrev pub first : Option ℕ → answers.Answer
-first (Some n) = a.Number n
-first None = a.Nothing
+abbrev pub number : Result ℕ ℕ → Result replies.Reply ℕ
+number (Ok n) = Ok (r.Number n)
+number (Err e) = Err e
 
-abbrev pub answered : Meaning → Call → answers.Answer
+abbrev pub done : Result (Unit {0}) ℕ → Result replies.Reply ℕ
+done (Ok x) = Ok r.Done
+done (Err e) = Err e
+
+abbrev pub first : Option ℕ → Result replies.Reply ℕ
+first (Some n) = Ok (r.Number n)
+first None = Ok r.Nothing
+
+abbrev pub answered : Meaning → Call → Result replies.Reply ℕ
 answered m (c.Load at) = number (loaded m.cells at)
 answered m (c.Store at n) = done (answer_of (stored m.cells at n))
 answered m c.First = first (first_waiting m.waiting)
 answered m c.Drop = done (answer_of (dropped m.waiting))
 answered m (c.Add n) = done (answer_of (added m.waiting n))
-answered m c.Count = a.Number (length m.codes)
+answered m c.Count = Ok (r.Number (length m.codes))
 answered m (c.Code place) = number (code_at m.codes place)
-answered m c.Clear = a.Done
+answered m c.Clear = Ok r.Done
 answered m (c.Print code) = done (answer_of (printed m.codes code))
 
 abbrev pub left : Meaning → Call → Meaning
@@ -52,24 +65,23 @@ left m (c.Code place) = m
 left m c.Clear = record { cells = m.cells; waiting = m.waiting; codes = [] }
 left m (c.Print code) = record { cells = m.cells; waiting = m.waiting; codes = left_by (printed m.codes code) m.codes }
 
+abbrev pub same_reply : replies.Reply → replies.Reply → Bool
+same_reply r.Done r.Done = true
+same_reply r.Done (r.Number n) = false
+same_reply r.Done r.Nothing = false
+same_reply (r.Number m) r.Done = false
+same_reply (r.Number m) (r.Number n) = m == n
+same_reply (r.Number m) r.Nothing = false
+same_reply r.Nothing r.Done = false
+same_reply r.Nothing (r.Number n) = false
+same_reply r.Nothing r.Nothing = true
+
 -- whether two answers are the same
-abbrev pub same_answer : answers.Answer → answers.Answer → Bool
-same_answer a.Done a.Done = true
-same_answer a.Done (a.Number n) = false
-same_answer a.Done a.Nothing = false
-same_answer a.Done (a.Refused e) = false
-same_answer (a.Number m) a.Done = false
-same_answer (a.Number m) (a.Number n) = m == n
-same_answer (a.Number m) a.Nothing = false
-same_answer (a.Number m) (a.Refused e) = false
-same_answer a.Nothing a.Done = false
-same_answer a.Nothing (a.Number n) = false
-same_answer a.Nothing a.Nothing = true
-same_answer a.Nothing (a.Refused e) = false
-same_answer (a.Refused d) a.Done = false
-same_answer (a.Refused d) (a.Number n) = false
-same_answer (a.Refused d) a.Nothing = false
-same_answer (a.Refused d) (a.Refused e) = d == e
+abbrev pub same_answer : Result replies.Reply ℕ → Result replies.Reply ℕ → Bool
+same_answer (Ok x) (Ok y) = same_reply x y
+same_answer (Ok x) (Err e) = false
+same_answer (Err d) (Ok y) = false
+same_answer (Err d) (Err e) = d == e
 
 abbrev pub one_if : Bool → ℕ
 one_if true = 1

@@ -1,9 +1,9 @@
 -- What calls and answers are written as.
-use Rattle.std.specs.Prelude.{ℕ, List, ◌++◌, codes, decimal}
+use Rattle.std.specs.Prelude.{ℕ, List, ◌++◌, Ok, Err, Result, codes, decimal}
 use Rattle.bench.specs.declared.call.Call.{Call}
 use Rattle.bench.specs.declared.call.Call.TheVariants as c
-use Rattle.bench.specs.declared.call.Answer as answers
-use Rattle.bench.specs.declared.call.Answer.TheVariants as a
+use Rattle.bench.specs.declared.call.Reply as replies
+use Rattle.bench.specs.declared.call.Reply.TheVariants as r
 
 abbrev pub call_text : Call → List ℕ
 call_text (c.Load at) = codes "load " ++ decimal at
@@ -16,11 +16,17 @@ call_text (c.Code place) = codes "code " ++ decimal place
 call_text c.Clear = codes "clear"
 call_text (c.Print code) = codes "print " ++ decimal code
 
-abbrev pub answer_text : answers.Answer → List ℕ
-answer_text a.Done = codes "ok"
-answer_text (a.Number n) = decimal n
-answer_text a.Nothing = codes "none"
-answer_text (a.Refused e) = codes "refused," ++ decimal e
+abbrev pub reply_text : replies.Reply → List ℕ
+reply_text r.Done = codes "ok"
+reply_text (r.Number n) = decimal n
+reply_text r.Nothing = codes "none"
 
-abbrev pub row_text : Call → answers.Answer → answers.Answer → List ℕ
+abbrev pub denial_text : ℕ → List ℕ
+denial_text e = codes "refused," ++ decimal e
+
+abbrev pub answer_text : Result replies.Reply ℕ → List ℕ
+answer_text (Ok x) = reply_text x
+answer_text (Err e) = denial_text e
+
+abbrev pub row_text : Call → Result replies.Reply ℕ → Result replies.Reply ℕ → List ℕ
 row_text call x y = call_text call ++ (codes ": " ++ (answer_text x ++ (codes " | " ++ answer_text y)))

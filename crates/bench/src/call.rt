@@ -1,3 +1,5 @@
+use rules::refusal::{Cause, Refusal};
+
 // What can be asked of the three devices: of the store, the reading queue and the label line.
 #[derive(Clone, Copy)]
 pub enum Call {
@@ -12,11 +14,53 @@ pub enum Call {
     Print(u64),
 }
 
-// What a device answers: that it was done, a number, that nothing waits, or the number of a refusal.
+// What a device answers: that it was done, a number, or that nothing waits.
 #[derive(Clone, Copy, PartialEq, Eq)]
-pub enum Answer {
+pub enum Reply {
     Done,
     Number(u64),
     Nothing,
-    Refused(u8),
+}
+
+// Why a device answers nothing: it refuses the call, or the label stops.
+#[derive(Clone, Copy, PartialEq, Eq)]
+pub enum Denial {
+    Refused(Refusal),
+    Stopped(Cause),
+}
+
+impl Denial {
+    ghost use Rattle.std.specs.Prelude.{◌≡◌};
+    ghost use Rattle.bench.specs.Benches.{denial_number};
+
+    pub fn number(self) -> u8
+        ensures { result ≡ denial_number self }
+    {
+        match self {
+            Denial::Refused(refusal) => refusal.number(),
+            Denial::Stopped(cause) => cause.number(),
+        }
+    }
+}
+
+impl From<Refusal> for Denial {
+    ghost use Rattle.std.specs.Prelude.{◌≡◌};
+    ghost use Rattle.bench.specs.declared.call.Denial.TheVariants.{Refused};
+
+    ghost from_gives = { λ refusal denial. denial ≡ Refused refusal };
+
+    fn from(refusal: Refusal) -> Denial {
+        Denial::Refused(refusal)
+    }
+}
+
+impl From<Cause> for Denial {
+    ghost use Rattle.std.specs.Prelude.{◌≡◌};
+    ghost use Rattle.bench.specs.declared.call.Denial.TheVariants.{Stopped};
+
+    ghost from_gives = { λ cause denial. denial ≡ Stopped cause };
+
+    fn from(cause: Cause) -> Denial {
+        Denial::Stopped(cause)
+    }
 }

@@ -1,7 +1,8 @@
 ghost use Rattle.std.specs.Prelude.{Some};
-ghost use Rattle.bench.specs.Showing.{answer_text, call_text};
+ghost use Rattle.bench.specs.Benches.{by_number, denial_number};
+ghost use Rattle.bench.specs.Showing.{answer_text, call_text, denial_text, reply_text};
 
-use crate::call::{Answer, Call};
+use crate::call::{Call, Denial, Reply};
 use std::fmt;
 
 impl fmt::Display for Call {
@@ -22,15 +23,37 @@ impl fmt::Display for Call {
     }
 }
 
-impl fmt::Display for Answer {
-    ghost output = { λ answer. Some (answer_text answer) };
+impl fmt::Display for Reply {
+    ghost output = { λ reply. Some (reply_text reply) };
 
     fn fmt<W: fmt::Write>(&self, f: &mut fmt::Formatter<W>) -> fmt::Result {
         match *self {
-            Answer::Done => write!(f, "ok"),
-            Answer::Number(number) => write!(f, "{number}"),
-            Answer::Nothing => write!(f, "none"),
-            Answer::Refused(number) => write!(f, "refused,{number}"),
+            Reply::Done => write!(f, "ok"),
+            Reply::Number(number) => write!(f, "{number}"),
+            Reply::Nothing => write!(f, "none"),
+        }
+    }
+}
+
+impl fmt::Display for Denial {
+    ghost output = { λ denial. Some (denial_text (denial_number denial)) };
+
+    fn fmt<W: fmt::Write>(&self, f: &mut fmt::Formatter<W>) -> fmt::Result {
+        write!(f, "refused,{}", self.number())
+    }
+}
+
+// What a device answered, as it is printed.
+#[derive(Clone, Copy)]
+pub(crate) struct Shown(pub(crate) Result<Reply, Denial>);
+
+impl fmt::Display for Shown {
+    ghost output = { λ shown. Some (answer_text (by_number shown.0)) };
+
+    fn fmt<W: fmt::Write>(&self, f: &mut fmt::Formatter<W>) -> fmt::Result {
+        match self.0 {
+            Ok(reply) => write!(f, "{reply}"),
+            Err(denial) => write!(f, "{denial}"),
         }
     }
 }

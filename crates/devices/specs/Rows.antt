@@ -2,8 +2,8 @@
 use Rattle.std.specs.Prelude.{ℕ, ◌+◌, ◌-◌, ◌%◌, cond, ◌==◌}
 use Rattle.bench.specs.declared.call.Call.{Call}
 use Rattle.bench.specs.declared.call.Call.TheVariants as c
-use Rattle.devices.specs.declared.exercise.Many.{Many}
-use Rattle.devices.specs.declared.exercise.Many.TheVariants.{FillStore, ReadStore, FillQueue, TakeAll, FillLabel, ReadLabel}
+use Rattle.devices.specs.declared.many.Many.{Many}
+use Rattle.devices.specs.declared.many.Many.TheVariants.{FillStore, ReadStore, FillQueue, TakeAll, FillLabel, ReadLabel}
 
 abbrev pub call_count : Many → ℕ
 call_count FillStore = 1000

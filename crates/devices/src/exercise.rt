@@ -1,7 +1,7 @@
 use bench::call::Call;
 
 // A new store holds zeros; the first and the last cell; the greatest number; and what is refused.
-pub static STORE_LIMITS: [Call; 13] = [
+pub static STORE_LIMITS: &[Call] = &[
     Call::Load(0),
     Call::Load(999),
     Call::Store(0, 99_999_999_999_999),
@@ -18,10 +18,10 @@ pub static STORE_LIMITS: [Call; 13] = [
 ];
 
 // Some cells of a store that has been filled: each holds a number of its own.
-pub static STORE_FILLED: [Call; 3] = [Call::Load(0), Call::Load(500), Call::Load(999)];
+pub static STORE_FILLED: &[Call] = &[Call::Load(0), Call::Load(500), Call::Load(999)];
 
 // A new queue is empty; numbers that are too large are refused.
-pub static QUEUE_EMPTY: [Call; 4] = [
+pub static QUEUE_EMPTY: &[Call] = &[
     Call::First,
     Call::Drop,
     Call::Add(100_000_000_000_000),
@@ -29,7 +29,7 @@ pub static QUEUE_EMPTY: [Call; 4] = [
 ];
 
 // A full queue takes no more, and a number too large is refused for that first.
-pub static QUEUE_FULL: [Call; 4] = [
+pub static QUEUE_FULL: &[Call] = &[
     Call::Add(17),
     Call::Add(100_000_000_000_000),
     Call::First,
@@ -37,7 +37,7 @@ pub static QUEUE_FULL: [Call; 4] = [
 ];
 
 // A freed place serves again; what was put in first comes out first.
-pub static QUEUE_AGAIN: [Call; 4] = [
+pub static QUEUE_AGAIN: &[Call] = &[
     Call::Add(99_999_999_999_999),
     Call::Add(0),
     Call::First,
@@ -45,10 +45,10 @@ pub static QUEUE_AGAIN: [Call; 4] = [
 ];
 
 // A new label line is empty; codes that are too large are refused.
-pub static LABEL_EMPTY: [Call; 4] = [Call::Count, Call::Code(1), Call::Print(256), Call::Count];
+pub static LABEL_EMPTY: &[Call] = &[Call::Count, Call::Code(1), Call::Print(256), Call::Count];
 
 // A full label line takes no more, whatever the code is.
-pub static LABEL_FULL: [Call; 10] = [
+pub static LABEL_FULL: &[Call] = &[
     Call::Count,
     Call::Print(65),
     Call::Print(256),
@@ -62,16 +62,4 @@ pub static LABEL_FULL: [Call; 10] = [
 ];
 
 // A label line of two codes.
-pub static LABEL_COPIED: [Call; 4] = [Call::Count, Call::Code(1), Call::Code(2), Call::Code(3)];
-
-// Rows of many like calls: a number of its own into every cell, and every cell; numbers from 1 on into a queue, and looking at
-// each waiting number and taking it; codes up to the greatest onto a label, and every code.
-#[derive(Clone, Copy)]
-pub enum Many {
-    FillStore,
-    ReadStore,
-    FillQueue,
-    TakeAll,
-    FillLabel,
-    ReadLabel,
-}
+pub static LABEL_COPIED: &[Call] = &[Call::Count, Call::Code(1), Call::Code(2), Call::Code(3)];

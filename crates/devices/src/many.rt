@@ -2,10 +2,21 @@ ghost use Rattle.std.specs.Prelude.{◌≡◌, ◌<◌, ◌≤◌, map, IfOk};
 ghost use Rattle.std.specs.List.{range_with_len};
 ghost use Rattle.devices.specs.Rows.{call_at, call_count};
 
-use crate::exercise::Many;
 use bench::call::Call;
 use rules::limits::{CELL_COUNT, LABEL_LIMIT, QUEUE_LIMIT};
 use std::alloc::{AllocError, Global};
+
+// Rows of many like calls: a number of its own into every cell, and every cell; numbers from 1 on into a queue, and looking at
+// each waiting number and taking it; codes up to the greatest onto a label, and every code.
+#[derive(Clone, Copy)]
+pub enum Many {
+    FillStore,
+    ReadStore,
+    FillQueue,
+    TakeAll,
+    FillLabel,
+    ReadLabel,
+}
 
 impl Many {
     fn count(self) -> usize
@@ -43,10 +54,8 @@ impl Many {
     pub fn calls(self, heap: Global) -> Result<Vec<Call>, AllocError>
         ensures { IfOk result (λ v. v.items ≡ map (call_at self) (range_with_len 0 (call_count self))) }
     {
-        let mut calls = Vec::new(heap);
-        for index in 0..self.count() {
-            calls.push(self.call(index))?;
-        }
-        Ok(calls)
+        (0..self.count())
+            .map(|index| self.call(index))
+            .collect(heap)
     }
 }

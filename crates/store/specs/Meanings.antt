@@ -6,10 +6,10 @@ use Rattle.store.specs.declared.packed_cells.PackedCells.{PackedCells}
 use Rattle.store.specs.Packing.{cell_bytes, cells_in, packed}
 
 abbrev pub word_cells : WordCells → List ℕ
-word_cells s = s.table.words
+word_cells s = s.table.cells
 
 abbrev pub packed_cells : PackedCells → List ℕ
-packed_cells s = cells_in s.table.bytes
+packed_cells s = cells_in s.table.cells
 
 -- the bytes of a cell are its number, packed; 15 where there is no such cell
 abbrev pub packed_cell : List ℕ → ℕ → Result (List ℕ) ℕ

@@ -1,6 +1,5 @@
 -- Packed decimal: two digits a byte, the higher digit in the higher half, the highest pair of a number first.
-use Rattle.std.specs.Prelude.{◌≡◌, ℕ, zero, suc, ◌+◌, ◌*◌, ◌/◌, ◌%◌, ◌<◌, List, [], ◌∷◌, ◌++◌, map, length, take, drop, slice_index}
-use Rattle.std.specs.List.{range_with_len}
+use Rattle.std.specs.Prelude.{◌≡◌, ℕ, zero, suc, ◌+◌, ◌*◌, ◌/◌, ◌%◌, ◌<◌, List, [], ◌∷◌, ◌++◌, map, length, All}
 use Rattle.rules.specs.Stores.{cell_count}
 
 -- the byte of two digits, given as a number below a hundred
@@ -32,21 +31,14 @@ unpacked bs = unpacked_on 0 bs
 abbrev pub cell_bytes : ℕ
 cell_bytes = 7
 
-abbrev pub byte_count : ℕ
-byte_count = 7000
+-- seven bytes of two digits each
+abbrev pub IsPacked : List ℕ → Type 0
+IsPacked bs = (length bs ≡ cell_bytes) × All TwoDigits bs
 
--- the bytes of a cell
-abbrev pub bytes_at : List ℕ → ℕ → List ℕ
-bytes_at bs a = take cell_bytes (drop (cell_bytes * a) bs)
+-- the number in each row of bytes; shut, since a thousand would compute
+unfoldable pub cells_in : List (List ℕ) → List ℕ
+cells_in rows = map unpacked rows
 
--- the bytes of a cell replaced
-abbrev pub replaced : List ℕ → ℕ → List ℕ → List ℕ
-replaced bs a ws = take (cell_bytes * a) bs ++ (ws ++ drop cell_bytes (drop (cell_bytes * a) bs))
-
--- the numbers in the thousand cells; shut, since a thousand would compute
-unfoldable pub cells_in : List ℕ → List ℕ
-cells_in bs = map (λ a. unpacked (bytes_at bs a)) (range_with_len 0 cell_count)
-
--- seven thousand bytes of two digits each
-abbrev pub Packed : List ℕ → Type 0
-Packed bs = (length bs ≡ byte_count) × ((i : ℕ) → TwoDigits (slice_index bs i))
+-- a thousand rows, each a packed number
+abbrev pub Packed : List (List ℕ) → Type 0
+Packed rows = (length rows ≡ cell_count) × All IsPacked rows

@@ -1,64 +1,51 @@
 -- Numbers in packed decimal: packing and unpacking undo each other, pair by pair from the last.
-use Rattle.std.specs.Prelude.{◌≡◌, ℕ, zero, suc, ◌+◌, ◌-◌, ◌*◌, ◌/◌, ◌%◌, ◌^◌, ◌<◌, ◌≤◌, List, [], ◌∷◌, ◌++◌, length, take, drop, slice_index, slice_index_or, slice_set, refl}
-use Rattle.std.proofs.Common.{pow-suc, add-one, arith, sym, ap, ◌∙◌, append_assoc}
-use Rattle.std.proofs.Math.Nat.{pow-le-pow_right}
-use Rattle.std.proofs.lemmas.List.{drop-set, take_more, take_all, length-take-le, length_push, at_drop_more, nil_from_length}
-use Rattle.rules.proofs.Each.{each_push, each_take}
-use Rattle.store.specs.Packing.{pair_byte, pair_in, TwoDigits, packed, unpacked_on, unpacked}
+use Rattle.std.specs.Prelude.{◌≡◌, ℕ, zero, suc, ◌+◌, ◌-◌, ◌*◌, ◌/◌, ◌%◌, ◌^◌, ◌<◌, ◌≤◌, List, [], ◌∷◌, ◌++◌, reverse, length, take, slice_index, slice_index_or, slice_set, All, refl}
+use Rattle.std.proofs.Common.{pow-suc, arith, sym, ap, ◌∙◌, append_assoc}
+use Rattle.std.proofs.lemmas.List.{take_more, take_more_set, take_all, reverse-append, length-take-le, length_push, nil_from_length}
+use Rattle.std.proofs.lemmas.List.Elements.{All-push, All-take}
+use Rattle.store.specs.Packing.{IsPacked, TwoDigits, cell_bytes, packed, pair_byte, pair_in, unpacked, unpacked_on}
 
 -- ### packing, from the last pair on
 
-pub packed_none : (n : ℕ) (bs : List ℕ) → packed 0 n ++ bs ≡ bs
-unfolding packed
-packed_none n bs = refl
-
 -- one pair more stands
-pub pack_step : (bytes all : List ℕ) (place rest b : ℕ) → 0 < place → place ≤ length bytes → b ≡ pair_byte (rest % 100) → packed place rest ++ drop place bytes ≡ all → packed (place - 1) (rest / 100) ++ drop (place - 1) (slice_set bytes (place - 1) b) ≡ all
+pack_more : (bytes all : List ℕ) (k i rest b : ℕ) → i < length bytes → b ≡ pair_byte (rest % 100) → packed (suc k) rest ++ reverse (take i bytes) ≡ all → packed k (rest / 100) ++ reverse (take (i + 1) (slice_set bytes i b)) ≡ all
 unfolding packed
-pack_step bytes all zero rest b p w e f = absurd (omega arith)
-pack_step bytes all (suc k) rest b p w e f =
-    let k' : suc k - 1 ≡ k = omega arith in
-    let s = drop-set bytes k b (omega arith) in
-    let a = append_assoc (packed k (rest / 100)) (pair_byte (rest % 100) ∷ []) (drop (suc k) bytes) in
-    let one = add-one k in
-    rw k' (ap (λ xs. packed k (rest / 100) ++ xs) s ∙ (cc))
+pack_more bytes all k i rest b h w e =
+    let t = ap reverse (take_more_set bytes i b h) ∙ reverse-append (take i bytes) (b ∷ []) in
+    let a = append_assoc (packed k (rest / 100)) (pair_byte (rest % 100) ∷ []) (reverse (take i bytes)) in
+    ap (λ xs. packed k (rest / 100) ++ xs) t ∙ (cc)
+
+pub pack_step : (bytes all : List ℕ) (i rest b : ℕ) → i < cell_bytes → length bytes ≡ cell_bytes → b ≡ pair_byte (rest % 100) → packed (cell_bytes - i) rest ++ reverse (take i bytes) ≡ all → packed (cell_bytes - (i + 1)) (rest / 100) ++ reverse (take (i + 1) (slice_set bytes i b)) ≡ all
+pack_step bytes all i rest b h l w e =
+    let left : cell_bytes - i ≡ suc (cell_bytes - (i + 1)) = omega arith in
+    pack_more bytes all (cell_bytes - (i + 1)) i rest b (omega arith) w (rw left at e)
+
+-- no pair is left to come
+pub pack_all : (bytes all : List ℕ) (i rest : ℕ) → cell_bytes ≤ i → length bytes ≡ cell_bytes → packed (cell_bytes - i) rest ++ reverse (take i bytes) ≡ all → reverse bytes ≡ all
+unfolding packed
+pack_all bytes all i rest h l e =
+    let none : cell_bytes - i ≡ 0 = omega arith in
+    let t = take_all i bytes (omega arith) in
+    rw t at (rw none at e)
 
 pub length_packed : (k n : ℕ) → length (packed k n) ≡ k
 unfolding packed
 length_packed zero n = refl
 length_packed (suc k) n = length_push (packed k (n / 100)) (pair_byte (n % 100)) ∙ (let e = length_packed k (n / 100) in omega arith)
 
-pub digits_packed : (k n : ℕ) → (i : ℕ) → TwoDigits (slice_index (packed k n) i)
+digits_packed : (k n : ℕ) → All TwoDigits (packed k n)
 unfolding packed
-digits_packed zero n i = (omega arith, omega arith)
-digits_packed (suc k) n i =
-    each_push TwoDigits (packed k (n / 100)) (pair_byte (n % 100)) (omega arith, omega arith) (omega arith, omega arith) (digits_packed k (n / 100)) i
+digits_packed zero n = λ i d h. absurd (omega arith)
+digits_packed (suc k) n = All-push TwoDigits (packed k (n / 100)) (pair_byte (n % 100)) (digits_packed k (n / 100)) (omega arith, omega arith)
+
+pub is_packed : (n : ℕ) → IsPacked (packed cell_bytes n)
+is_packed n = (length_packed cell_bytes n, digits_packed cell_bytes n)
 
 -- ### unpacking, from the first pair on
 
 unpacked_push : (n b : ℕ) (bs : List ℕ) → unpacked_on n (bs ++ (b ∷ [])) ≡ unpacked_on n bs * 100 + pair_in b
 unpacked_push n b [] = refl
 unpacked_push n b (x ∷ bs) = unpacked_push (n * 100 + pair_in x) b bs
-
-pub unpack_step : (bytes : List ℕ) (n i : ℕ) → i < length bytes → unpacked_on n (drop i bytes) ≡ unpacked_on (n * 100 + pair_in (slice_index bytes i)) (drop (i + 1) bytes)
-unpack_step bytes n i h = at_drop_more (unpacked_on n) bytes i 0 h
-
-pub unpacked_zeros : (bs : List ℕ) → ((i : ℕ) → ◌≡◌ {A = ℕ} (slice_index bs i) 0) → ◌≡◌ {A = ℕ} (unpacked bs) 0
-unpacked_zeros [] z = refl
-unpacked_zeros (b ∷ bs) z =
-    let e : 0 * 100 + pair_in b ≡ 0 = (let y = z 0 in omega arith) in
-    ap (λ n. unpacked_on n bs) e ∙ unpacked_zeros bs (λ i. z (suc i))
-
--- so many pairs are a number of twice so many digits
-pub pair_more : (n p i : ℕ) → p < 100 → n < 100 ^ i → n * 100 + p < 100 ^ (i + 1)
-pair_more n p i h k = rw (add-one, pow-suc) (omega arith)
-
-pub few_pairs : (n i : ℕ) → i < 7 → n < 100 ^ i → n < 100 ^ 6
-few_pairs n i h k =
-    let base : 0 < 100 = omega arith in
-    let most : i ≤ 6 = omega arith in
-    let m : 100 ^ i ≤ 100 ^ 6 = pow-le-pow_right base most in
-    omega arith
 
 -- ### each undoes the other
 
@@ -78,23 +65,21 @@ unpacked_packed (suc k) n h =
 split : (bs : List ℕ) (k : ℕ) → length bs ≡ suc k → unpacked bs ≡ unpacked (take k bs) * 100 + pair_in (slice_index bs k)
 split bs k e = ap unpacked (sym (last bs k e)) ∙ unpacked_push 0 (slice_index bs k) (take k bs)
 
-pub unpacked_below : (k : ℕ) (bs : List ℕ) → length bs ≡ k → ((i : ℕ) → TwoDigits (slice_index bs i)) → unpacked bs < 100 ^ k
+pub unpacked_below : (k : ℕ) (bs : List ℕ) → length bs ≡ k → All TwoDigits bs → unpacked bs < 100 ^ k
 unpacked_below zero bs e d = let z = ap unpacked (nil_from_length bs e) in omega arith
 unpacked_below (suc k) bs e d =
-    let l = length-take-le k bs (omega arith) in
-    let b = unpacked_below k (take k bs) l (each_take TwoDigits bs k (omega arith, omega arith) d) in
+    let b = unpacked_below k (take k bs) (length-take-le k bs (omega arith)) (All-take TwoDigits k bs d) in
     let s = split bs k e in
-    let t = d k in
+    let t = d k 0 (omega arith) in
     rw pow-suc (omega arith)
 
-pub packed_unpacked : (k : ℕ) (bs : List ℕ) → length bs ≡ k → ((i : ℕ) → TwoDigits (slice_index bs i)) → packed k (unpacked bs) ≡ bs
+pub packed_unpacked : (k : ℕ) (bs : List ℕ) → length bs ≡ k → All TwoDigits bs → packed k (unpacked bs) ≡ bs
 unfolding packed
 packed_unpacked zero bs e d = sym (nil_from_length bs e)
 packed_unpacked (suc k) bs e d =
-    let l = length-take-le k bs (omega arith) in
-    let ih = packed_unpacked k (take k bs) l (each_take TwoDigits bs k (omega arith, omega arith) d) in
+    let ih = packed_unpacked k (take k bs) (length-take-le k bs (omega arith)) (All-take TwoDigits k bs d) in
     let s = split bs k e in
-    let t = d k in
+    let t = d k 0 (omega arith) in
     let high : unpacked bs / 100 ≡ unpacked (take k bs) = omega arith in
     let low : pair_byte (unpacked bs % 100) ≡ slice_index_or bs k 0 = omega arith in
     rw (high, low) (ap (λ xs. xs ++ (slice_index bs k ∷ [])) ih ∙ last bs k e)

@@ -3,15 +3,12 @@
 
 ghost use Rattle.store.specs.Examples.{Examples};
 
-pub mod by_digits;
-pub mod by_words;
 pub mod clearing;
 pub mod packed_cells;
-pub(crate) mod packed_table;
 pub(crate) mod packing;
+pub(crate) mod table;
 pub mod word_cells;
 pub mod word_store;
-pub(crate) mod word_table;
 
 // The worked examples hold of the definitions.
 pub fn examples_stand()

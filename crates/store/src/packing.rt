@@ -1,5 +1,5 @@
-ghost use Rattle.std.specs.Prelude.{◌≡◌, ℕ, ◌<◌, ◌≤◌, length, slice_index};
-ghost use Rattle.store.specs.Packing.{TwoDigits, cell_bytes, packed, pair_byte, pair_in, unpacked};
+ghost use Rattle.std.specs.Prelude.{◌≡◌, ◌<◌};
+ghost use Rattle.store.specs.Packing.{IsPacked, cell_bytes, packed, pair_byte, pair_in, unpacked};
 
 // How many bytes a cell takes: fourteen digits, two a byte.
 pub(crate) const CELL_BYTES: usize = 7;
@@ -26,22 +26,22 @@ pub(crate) fn pack(number: u64) -> [u8; CELL_BYTES]
 {
     let mut bytes = [0; CELL_BYTES];
     let mut rest = number;
-    for place in (0..CELL_BYTES).rev() {
-        bytes[place] = join_digits(rest % 100);
+    for byte in &mut bytes {
+        *byte = join_digits(rest % 100);
         rest /= 100;
     }
+    bytes.reverse();
     bytes
 }
 
-// The number that at most seven bytes of two digits each write.
-pub(crate) fn unpack(bytes: &[u8]) -> u64
-    requires few { length bytes.now ≤ cell_bytes }
-    requires digits { (i : ℕ) → TwoDigits (slice_index bytes.now i) }
-    ensures { result ≡ unpacked bytes.now }
+// The number that seven bytes of two digits each write.
+pub(crate) fn unpack(bytes: [u8; CELL_BYTES]) -> u64
+    requires { IsPacked bytes }
+    ensures { result ≡ unpacked bytes }
 {
     let mut number = 0;
     for byte in bytes {
-        number = number * 100 + split_digits(*byte);
+        number = number * 100 + split_digits(byte);
     }
     number
 }

@@ -1,8 +1,13 @@
-use Rattle.std.proofs.Common.{◌≡◌, ℕ, ◌+◌, ◌<◌, ◌≤◌, List, ◌++◌, length, drop, set, replicate, arith}
+use Rattle.std.proofs.Common.{◌≡◌, ℕ, ◌+◌, ◌<◌, ◌≤◌, List, ◌++◌, length, drop, set, replicate, ◌∙◌, arith, rules}
 use Rattle.std.proofs.lemmas.List.{drop_all, append-nil}
 use Rattle.std.proofs.lemmas.List.Edits.{fill_more}
-use Rattle.rules.specs.Stores.{cell_count, zeros}
+use Rattle.rules.specs.Stores.{cell_count, stored, zeros}
+use Rattle.rules.specs.Calls.{left_by}
 use Rattle.store.proofs.clearing.clear.Goals as goal
+
+-- the address is a cell's and 0 is small enough
+put : (cs : List ℕ) (a : ℕ) → a < cell_count → left_by (stored cs a 0) cs ≡ set cs a 0
+put cs a h = search rules
 
 -- one more cell is cleared
 step : (old cur new : List ℕ) (i : ℕ) → length old ≡ cell_count → i < cell_count → cur ≡ replicate i 0 ++ drop i old → new ≡ set cur i 0 → new ≡ replicate (i + 1) 0 ++ drop (i + 1) old
@@ -22,7 +27,7 @@ end old cur i n l h k e =
 
 pub loop-address-preserved : goal.loop-address-preserved
 loop-address-preserved g c =
-    step _ _ _ c.loop-address.address (g.met.S.WordStore.sized c.args.store.now) c.loop-address-test.true c.loop-address.invariant c.clear_cell.ensures
+    step _ _ _ c.loop-address.address (g.met.S.WordStore.sized c.args.store.now) c.loop-address-test.true c.loop-address.invariant (c.store.ensures.after ∙ put _ _ c.loop-address-test.true)
 
 pub returns : goal.returns
 unfolding zeros

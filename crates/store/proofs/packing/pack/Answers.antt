@@ -1,17 +1,14 @@
-use Rattle.std.proofs.Common.{◌≡◌, ℕ, List, ◌++◌, drop, sym, ◌∙◌, arith}
+use Rattle.std.proofs.Common.{◌∙◌}
 use Rattle.std.proofs.lemmas.List.{length-set}
-use Rattle.store.specs.Packing.{packed}
-use Rattle.store.specs.Pairs.{pack_step, packed_none}
+use Rattle.store.specs.Pairs.{pack_all, pack_step}
 use Rattle.store.proofs.packing.pack.Goals as goal
 
-pub loop-place-preserved : goal.loop-place-preserved
-loop-place-preserved c =
-    let i = c.loop-place.invariant in
-    (length-set _ _ _ ∙ i.0, pack_step _ _ c.loop-place.place c.loop-place.rest _ (omega arith) (omega arith) c.join_digits.ensures i.1)
-
--- no pair is left to come
-done : (bytes all : List ℕ) (place rest : ℕ) → place ≡ 0 → packed place rest ++ drop place bytes ≡ all → bytes ≡ all
-done bytes all place rest z e = sym (packed_none rest bytes) ∙ (rw z at e)
+pub loop-byte-preserved : goal.loop-byte-preserved
+loop-byte-preserved c =
+    let i = c.loop-byte.invariant in
+    (length-set _ _ _ ∙ i.0, pack_step c.loop-byte.byte-items _ c.loop-byte.byte-index c.loop-byte.rest _ c.loop-byte-test.true i.0 c.join_digits.ensures i.1)
 
 pub returns : goal.returns
-returns c = done _ _ c.loop-place.place c.loop-place.rest (omega arith) c.loop-place.invariant.1
+returns c =
+    let i = c.loop-byte.invariant in
+    c.reverse.ensures.after ∙ pack_all c.loop-byte.byte-items _ c.loop-byte.byte-index c.loop-byte.rest c.loop-byte-test.false i.0 i.1

@@ -8,8 +8,8 @@ sound : (l : List ℕ) (k : ℕ) → k ≡ cell_count → l ≡ replicate k 0 �
 sound l k n e = let z = zeroed l k e in (z.0 ∙ n, λ i. omega (arith, z.1 i))
 
 pub invariant_of-result : goal.invariant_of-result
-invariant_of-result c = record { sound = sound _ _ refl c.new.ensures }
+invariant_of-result c = record { sound = sound _ _ refl c.filled.ensures }
 
 pub returns : goal.returns
 unfolding zeros
-returns c = c.new.ensures
+returns c = c.filled.ensures
