@@ -29,16 +29,16 @@ pub enum Denial {
     Stopped(Cause),
 }
 
-impl Denial {
+impl From<Denial> for u8 {
     ghost use Rattle.std.specs.Prelude.{◌≡◌};
     ghost use Rattle.bench.specs.Benches.{denial_number};
 
-    pub fn number(self) -> u8
-        ensures { result ≡ denial_number self }
-    {
-        match self {
-            Denial::Refused(refusal) => refusal.number(),
-            Denial::Stopped(cause) => cause.number(),
+    ghost from_gives = { λ denial number. number ≡ denial_number denial };
+
+    fn from(denial: Denial) -> u8 {
+        match denial {
+            Denial::Refused(refusal) => u8::from(refusal),
+            Denial::Stopped(cause) => u8::from(cause),
         }
     }
 }

@@ -39,7 +39,7 @@ impl fmt::Display for Denial {
     ghost output = { λ denial. Some (denial_text (denial_number denial)) };
 
     fn fmt<W: fmt::Write>(&self, f: &mut fmt::Formatter<W>) -> fmt::Result {
-        write!(f, "refused,{}", self.number())
+        write!(f, "refused,{}", u8::from(*self))
     }
 }
 
