@@ -18,7 +18,7 @@ use Rattle.compiler.specs.Put.{Room, Wrote, Stands}
 pub wrote_none : (a : TapeWriter) → Wrote a [] a
 wrote_none a = record { same_reference = refl; constants = refl; front = sym (append-nil (take a.count a.buffer.now)); back = refl; count = omega arith; size = refl }
 
-pub wrote_then : (a b c : TapeWriter) (ws vs : List ℕ) → Wrote a ws b → Wrote b vs c → Wrote a (ws ++ vs) c
+wrote_then : (a b c : TapeWriter) (ws vs : List ℕ) → Wrote a ws b → Wrote b vs c → Wrote a (ws ++ vs) c
 wrote_then a b c ws vs p q =
     let n : c.count ≡ b.count + length vs = q.count in
     let d : (l : List ℕ) → drop c.count l ≡ drop (length vs) (drop b.count l) = λ l. ap (λ (k : ℕ). drop k l) n ∙ sym (drop-drop (length vs) b.count l) in

@@ -12,7 +12,7 @@ use Rattle.rules.specs.Mentions.{Mention, mention, noting, first_past, different
 use Rattle.compiler.specs.Scan.{scan, found}
 use Rattle.compiler.specs.Mentioned.{Alike}
 
-pub alike_same : (ms ns : List Mention) (cs : List ℕ) → ms ≡ ns → Alike ms cs ns cs
+alike_same : (ms ns : List Mention) (cs : List ℕ) → ms ≡ ns → Alike ms cs ns cs
 alike_same ms ns cs e = (ap (λ o. first_past o cs) e, ap (λ o. different o cs) e)
 
 unchanged : (l p g : ℕ) (b : Bool) (ms : List Mention) (cs : List ℕ) → length cs ≤ 46 → Alike (cond b (mention l p (Letter g) ∷ ms) ms) cs ms cs

@@ -1,12 +1,10 @@
 ghost use Rattle.std.specs.Prelude.{◌≤◌, length};
 
+use crate::lines::SIDE_PLACE;
 use arrayvec::{ArrayVec, CapacityError};
 use reader::numbers::{constant, is_digit};
 use rules::limits::CONSTANT_LIMIT;
 use rules::refusal::{Position, TextRefusal};
-
-// Where a line's side begins, behind the letter and the comma.
-pub(crate) const SIDE_PLACE: usize = 3;
 
 // The different constants in order of first appearance, as many as there are cells for them.
 #[derive(Drop)]
@@ -61,9 +59,8 @@ impl Constants {
         ensures { TakenFirst (found at.line at.place (constant_at bytes.now)) (table self.old) result (table self.new) }
     {
         if let Ok((number, _)) = constant(bytes) {
-            if self.note(number).is_err() {
-                return Err(TextRefusal::TooManyConstants(at));
-            }
+            self.note(number)
+                .map_err(|_| TextRefusal::TooManyConstants(at))?;
         }
         Ok(())
     }

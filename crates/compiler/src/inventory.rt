@@ -1,23 +1,13 @@
-ghost use Rattle.std.specs.Prelude.{◌≡◌, ◌≤◌, length, drop, position};
+ghost use Rattle.std.specs.Prelude.{◌≡◌, ◌≤◌, length, position};
 ghost use Rattle.rules.specs.Texts.{cut};
 ghost use Rattle.rules.specs.Mentions.{program_mentions};
 ghost use Rattle.compiler.specs.Lines.{read_lines, Readable};
 ghost use Rattle.compiler.specs.Mentioned.{lacks, Lettered, TakenAll};
 
-use crate::constants::{Constants, SIDE_PLACE};
+use crate::constants::Constants;
 use crate::groups::Groups;
-use crate::lines::Lines;
+use crate::lines::{Lines, SIDE_PLACE, side_of};
 use rules::refusal::{Position, TextRefusal};
-
-// What stands behind a line's letter and comma.
-fn side_of(line: &[u8]) -> &[u8]
-    ensures { result.now ≡ drop 2 line.now }
-{
-    match line {
-        [_, _, side @ ..] => side,
-        _ => &[],
-    }
-}
 
 // How many bytes stand before the first letter without group.
 fn loose_letter(side: &[u8], groups: &Groups) -> Option<usize>

@@ -1,8 +1,11 @@
-ghost use Rattle.std.specs.Prelude.{◌≡◌, ◌≤◌, length};
+ghost use Rattle.std.specs.Prelude.{◌≡◌, ◌≤◌, length, drop};
 ghost use Rattle.std.specs.List.{prefix_len};
 ghost use Rattle.compiler.specs.Lines.{in_line};
 
-const LINE_END: u8 = 10;
+const LINE_END: u8 = b'\n';
+
+// The place of the first byte of a line's side, which stands behind the group's letter and a comma.
+pub(crate) const SIDE_PLACE: usize = 3;
 
 // The lines of a text without their line ends, one after another. Bytes that no line end follows are no line.
 #[derive(Drop)]
@@ -50,4 +53,14 @@ fn line_length(text: &[u8]) -> usize
     ensures within { result ≤ length text.now }
 {
     text.iter().take_while(|b| **b != LINE_END).count()
+}
+
+// What stands behind a line's letter and comma: its side, and the target.
+pub(crate) fn side_of(line: &[u8]) -> &[u8]
+    ensures { result.now ≡ drop 2 line.now }
+{
+    match line {
+        [_, _, side @ ..] => side,
+        _ => &[],
+    }
 }

@@ -83,6 +83,7 @@ impl Survey {
         ensures lines { OnOk result (self.new.lines ≡ self.old.lines + 1) }
     {
         let line = self.lines + 1;
+        // A `match`, since through `map_err` and `?` the proof would not know what was read.
         let read = match read_line(bytes) {
             Ok(read) => read,
             Err(misread) => return Err(misread.fault.at(line, misread.place)),

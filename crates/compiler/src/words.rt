@@ -39,6 +39,8 @@ impl Field {
         Field { value }
     }
 
+    // An atom or a target holds a plain byte. So the difference to its first letter is one that cannot fall below 0, here and
+    // in the next two.
     fn variable(byte: u8) -> Field
         ensures { result ≡ variable_cell byte }
     {

@@ -1,7 +1,6 @@
 use Rattle.std.proofs.Common.{Ok, Err, arith}
 use Rattle.std.proofs.lemmas.Result.{err_from_is_err_and}
-use Rattle.rules.specs.declared.refusal.TextRefusal.TheVariants.{TapeTooShort}
-use Rattle.compiler.proofs.Finish.{answers, refused_answers, short_answers, meant}
+use Rattle.compiler.proofs.Finish.{answers, refused_answers, meant}
 use Rattle.compiler.proofs.compiling.compile.Goals as goal
 
 pub returns-in_err-plan : goal.returns-in_err-plan
@@ -9,12 +8,6 @@ returns-in_err-plan c =
     let p = err_from_is_err_and c.from_residual.result c.from_residual.ensures.1 in
     let a = refused_answers _ c.args.tape.now _ c.in_err-plan.ensures in
     rw (p.1, p.2) (record { answer = a.0; buffer = a.1; meant = meant c.args.text.now c.args.tape.now _ (Err c.in_err-plan.field-0.0) a.0 a.1 })
-
-pub returns-then-tape-plan : goal.returns-then-tape-plan
-returns-then-tape-plan c =
-    let p = c.in_ok-plan.ensures in
-    let a = short_answers _ _ c.args.tape.now p.is (omega (arith, p.length, c.if-tape-plan.true)) in
-    record { answer = a.0; buffer = a.1; meant = meant c.args.text.now c.args.tape.now _ (Err TapeTooShort) a.0 a.1 }
 
 pub returns : goal.returns
 returns c =

@@ -1,4 +1,4 @@
-use Rattle.std.proofs.Common.{◌≡◌, ℕ, suc, false, List, drop, Some, None, sym, refl, ap, ◌∙◌, inl, inr, add-one, arith}
+use Rattle.std.proofs.Common.{◌≡◌, ℕ, suc, false, List, drop, Some, None, sym, ap, ◌∙◌, inl, inr, add-one, arith}
 use Rattle.std.specs.List.{position}
 use Rattle.rules.specs.Tree.{Program}
 use Rattle.rules.specs.Texts.{cut}
@@ -9,11 +9,6 @@ use Rattle.compiler.specs.Mentioned.{lacks}
 use Rattle.compiler.proofs.Loose.{loose_found, loose_clear, loose_on, loose_stays}
 use Rattle.compiler.proofs.Rereads.{readable_parts, lines_tail, mentions_line}
 use Rattle.compiler.proofs.inventory.check_letters.Goals as goal
-
-pub loop-line-init : goal.loop-line-init
-loop-line-init c =
-    rw (c.into_iter-line-iterator.ensures.into_iter_gives, c.zip-line-items.ensures.first, c.zip-line-items.ensures.second, c.of.ensures)
-    (c.requires.reads, (λ ks m. refl), omega (arith, c.requires.short))
 
 pub returns-in-Some-loose_letter : goal.returns-in-Some-loose_letter
 returns-in-Some-loose_letter c = λ ks m.

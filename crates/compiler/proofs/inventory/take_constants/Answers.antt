@@ -1,4 +1,4 @@
-use Rattle.std.proofs.Common.{ℕ, suc, false, List, drop, sym, refl, ap, ◌∙◌, inl, inr, length-drop, arith}
+use Rattle.std.proofs.Common.{ℕ, suc, false, List, drop, sym, ap, ◌∙◌, inl, inr, length-drop, arith}
 use Rattle.std.proofs.lemmas.Result.{err_from_is_err_and}
 use Rattle.rules.specs.Texts.{cut}
 use Rattle.rules.specs.Mentions.{Mention, program_mentions, first_past, different}
@@ -8,11 +8,6 @@ use Rattle.compiler.specs.Scan.{scan}
 use Rattle.compiler.proofs.Takes.{line_taken, past_stays}
 use Rattle.compiler.proofs.Rereads.{readable_parts, parts_short, lines_tail, mentions_line}
 use Rattle.compiler.proofs.inventory.take_constants.Goals as goal
-
-pub loop-line-init : goal.loop-line-init
-loop-line-init c =
-    rw (c.into_iter-line-iterator.ensures.into_iter_gives, c.zip-line-items.ensures.first, c.zip-line-items.ensures.second, c.of.ensures, c.new-constants.ensures)
-    (c.requires.reads, (refl, refl), omega (arith, c.requires.short))
 
 pub take_side-requires : goal.take_side-requires
 take_side-requires c =

@@ -1,15 +1,10 @@
-use Rattle.std.proofs.Common.{None, ap, subst, List, ℕ}
-use Rattle.rules.specs.Texts.{cut}
+use Rattle.std.proofs.Common.{ap, subst, List, ℕ}
 use Rattle.reader.specs.declared.line.ReadLine.{ReadLine}
 use Rattle.compiler.specs.Held.{table}
-use Rattle.compiler.specs.Lines.{read_lines}
 use Rattle.compiler.specs.Put.{Wrote}
-use Rattle.compiler.proofs.Puts.{left_start, left_turn, left_same, left_none, head_room, line_room, read_is}
+use Rattle.compiler.proofs.Puts.{left_turn, left_same, left_none, head_room, line_room, read_is}
 use Rattle.compiler.proofs.Rereads.{lines_got, lines_fails, lines_tail}
 use Rattle.compiler.proofs.tape_writer.TapeWriter.put_lines.Goals as goal
-
-pub loop-bytes-init : goal.loop-bytes-init
-loop-bytes-init c = rw (c.into_iter-bytes-iterator.ensures.into_iter_gives, c.of-bytes-items.ensures) (left_start c.args.self.now None (read_lines (cut c.args.text.now)))
 
 pub put_head-requires : goal.put_head-requires
 put_head-requires c =
