@@ -18,8 +18,7 @@ fn loose_letter(side: &[u8], groups: &Groups) -> Option<usize>
 
 // Sees that each letter of a text has a group. The text's lines can be read.
 pub(crate) fn check_letters(text: &[u8], groups: &Groups) -> Result<(), TextRefusal>
-    requires reads { Readable (cut text.now) }
-    requires short { length text.now ≤ 16384 }
+    requires { Readable (cut text.now) }
     ensures { Lettered (program_mentions 1 (read_lines (cut text.now))) groups.now result }
 {
     for (line, bytes) in (1..).zip(Lines::of(text)) {
@@ -33,8 +32,7 @@ pub(crate) fn check_letters(text: &[u8], groups: &Groups) -> Result<(), TextRefu
 
 // The constants of a text whose lines can be read.
 pub(crate) fn take_constants(text: &[u8]) -> Result<Constants, TextRefusal>
-    requires reads { Readable (cut text.now) }
-    requires short { length text.now ≤ 16384 }
+    requires { Readable (cut text.now) }
     ensures { TakenAll (program_mentions 1 (read_lines (cut text.now))) result }
 {
     let mut constants = Constants::new();

@@ -11,4 +11,4 @@ abbrev pub invariant-loop-line : goal.invariant-loop-line
 invariant-loop-line l =
     Readable (cut l.line-iterator.b.rest.now)
     × Alike (program_mentions 1 (read_lines (cut l.text))) [] (program_mentions l.line-iterator.a.start (read_lines (cut l.line-iterator.b.rest.now))) (table l.constants)
-    × (l.line-iterator.a.start + length l.line-iterator.b.rest.now ≤ 16385)
+    × (l.line-iterator.a.start + length l.line-iterator.b.rest.now ≤ length l.text + 1)
