@@ -15,7 +15,7 @@ returns-in_err-found c =
     rw (p.1, p.2) (compiled_refused _ _ c.if-text-gt-TEXT_LIMIT.false c.in_err-found.ensures)
 
 pub check_letters-requires : goal.check_letters-requires
-check_letters-requires c = let s = c.in_ok-found.ensures in record { reads = readable c.args.text.now s.0 s.1; short = c.if-text-gt-TEXT_LIMIT.false }
+check_letters-requires c = let s = c.in_ok-found.ensures in readable c.args.text.now s.0 s.1
 
 pub returns-in_err-check_letters : goal.returns-in_err-check_letters
 returns-in_err-check_letters c =
@@ -24,7 +24,7 @@ returns-in_err-check_letters c =
     rw (p.1, p.2) (compiled_loose c.args.text.now s.0 _ c.if-text-gt-TEXT_LIMIT.false s.1 (c.in_err-check_letters.ensures (read_lines (cut c.args.text.now)) (its_marks c.in_ok-found.found c.args.text.now s.0 s.1 s.2)))
 
 pub take_constants-requires : goal.take_constants-requires
-take_constants-requires c = let s = c.in_ok-found.ensures in record { reads = readable c.args.text.now s.0 s.1; short = c.if-text-gt-TEXT_LIMIT.false }
+take_constants-requires c = let s = c.in_ok-found.ensures in readable c.args.text.now s.0 s.1
 
 pub returns-in_err-constants : goal.returns-in_err-constants
 returns-in_err-constants c =
