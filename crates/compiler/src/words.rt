@@ -1,5 +1,5 @@
-ghost use Rattle.std.specs.Prelude.{◌≡◌, ◌<◌, ◌≤◌};
-ghost use Rattle.rules.specs.Cells.{atom_address, source_address, target_address, variable_cell, letter_cell, constant_cell, temporary_cell, pointed};
+ghost use Rattle.std.specs.Prelude.{◌≡◌, ◌+◌, ◌-◌, ◌<◌, ◌≤◌};
+ghost use Rattle.rules.specs.Cells.{atom_address, source_address, target_address, constant_cell, temporary_cell};
 ghost use Rattle.rules.specs.Codes.{transfer_code};
 ghost use Rattle.rules.specs.Words.{word as word_of, operation_word as operation_word_of, head_word as head_word_of, constant_code};
 ghost use Rattle.compiler.specs.Held.{table};
@@ -41,22 +41,12 @@ impl Field {
 
     // An atom or a target holds a plain byte. So the difference to its first letter is one that cannot fall below 0, here and
     // in the next two.
-    fn variable(byte: u8) -> Field
-        ensures { result ≡ variable_cell byte }
+    // The cell of a letter, in the cells of an alphabet that begins with `first`.
+    fn letter(cells: u64, first: u8, letter: u8) -> Field
+        requires { cells ≤ 1002 }
+        ensures { result ≡ cells + (letter - first) }
     {
-        Field::of(VARIABLES + u64::from(byte.saturating_sub(b'a')))
-    }
-
-    fn pointed(byte: u8) -> Field
-        ensures { result ≡ pointed (variable_cell byte) }
-    {
-        Field::of(POINTED + VARIABLES + u64::from(byte.saturating_sub(b'a')))
-    }
-
-    fn letter(byte: u8) -> Field
-        ensures { result ≡ letter_cell byte }
-    {
-        Field::of(LETTERS + u64::from(byte.saturating_sub(b'A')))
+        Field::of(cells + u64::from(letter.saturating_sub(first)))
     }
 
     fn constant(place: usize) -> Field
@@ -76,9 +66,9 @@ impl Field {
         ensures { result ≡ atom_address (table constants.now) atom }
     {
         match atom {
-            Atom::Variable(v) => Field::variable(v),
-            Atom::Pointed(v) => Field::pointed(v),
-            Atom::Letter(g) => Field::letter(g),
+            Atom::Variable(v) => Field::letter(VARIABLES, b'a', v),
+            Atom::Pointed(v) => Field::letter(POINTED + VARIABLES, b'a', v),
+            Atom::Letter(g) => Field::letter(LETTERS, b'A', g),
             Atom::Constant(n) => Field::constant(constants.place(n)),
         }
     }
@@ -96,8 +86,8 @@ impl Field {
         ensures { result ≡ target_address target }
     {
         match target {
-            Target::Variable(v) => Field::variable(v),
-            Target::Pointed(v) => Field::pointed(v),
+            Target::Variable(v) => Field::letter(VARIABLES, b'a', v),
+            Target::Pointed(v) => Field::letter(POINTED + VARIABLES, b'a', v),
             Target::Label => Field::of(LABEL),
             Target::Place => Field::of(PLACE_REGISTER),
         }

@@ -7,6 +7,7 @@ pub fn copy<A: LabelLine, B: LabelLine>(from: &A, to: &mut B)
     ensures { B.LabelLine.codes to.new ≡ A.LabelLine.codes from.now }
 {
     to.clear();
+    // by index, since a line of any kind is no slice: it answers one code at a time
     for index in 0..from.count() {
         if let Some(code) = from.get(index) {
             // so many codes have found room on the other line

@@ -8,6 +8,7 @@ use rules::limits::CELL_COUNT;
 pub fn clear<S: WordStore>(store: &mut S)
     ensures { S.cells store.new ≡ zeros }
 {
+    // by address, since a store of any kind is no slice: it takes one number at a time
     for address in 0..CELL_COUNT {
         // the address is a cell's and 0 is small enough, so nothing is refused
         let _ = store.store(address, 0);

@@ -1,7 +1,7 @@
 // Accepted texts: the words of their tapes, and limits that are kept. The comment at a case says why; `stdout` says what is due.
 use crate::case::{Case, Part, ROOM};
 
-pub(crate) static CASES: [Case; 38] = [
+pub(crate) static CASES: &[Case] = &[
     // n 15, t 21, p 17, c 4; the constant 0 in cell 54 is no end
     Case {
         name: "net weight",

@@ -1,7 +1,7 @@
 // Texts and lines that are too long, and lines without line end: refusals 1 and 2. The comment at a case says why; `stdout` says what is due.
 use crate::case::{Case, Part, ROOM};
 
-pub(crate) static CASES: [Case; 22] = [
+pub(crate) static CASES: &[Case] = &[
     // 2729 x 6 + 9 bytes: not too long, but the 373rd line has the 373rd instruction
     Case {
         name: "text of 16383 bytes",

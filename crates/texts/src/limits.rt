@@ -5,7 +5,7 @@ use crate::case::{Case, Part, ROOM};
 const ALL_GROUPS: &str =
     "A,a,#\nB,a,#\nC,a,#\nD,a,#\nE,a,#\nF,a,#\nG,a,#\nH,a,#\nI,a,#\nJ,a,#\nK,a,#\nL,a,#\nM,a,#\nN,a,#\nO,a,#\nP,a,#\nQ,a,#\nR,a,#\nS,a,#\nT,a,#\nU,a,#\nV,a,#\nW,a,#\nX,a,#\nY,a,#\nZ,a,#\n";
 
-pub(crate) static CASES: [Case; 16] = [
+pub(crate) static CASES: &[Case] = &[
     // the line of the 373rd
     Case {
         name: "373 instructions",

@@ -65,15 +65,15 @@ fn run_all(rt: &HostRuntime, cases: &[Case]) -> anyhow::Result<()> {
 }
 
 fn main(rt: HostRuntime) -> anyhow::Result<()> {
-    let tables: [&[Case]; 8] = [
-        &good::CASES,
-        &lengths::CASES,
-        &bytes::CASES,
-        &constants::CASES,
-        &parentheses::CASES,
-        &groups::CASES,
-        &mentions::CASES,
-        &limits::CASES,
+    let tables = [
+        good::CASES,
+        lengths::CASES,
+        bytes::CASES,
+        constants::CASES,
+        parentheses::CASES,
+        groups::CASES,
+        mentions::CASES,
+        limits::CASES,
     ];
     for cases in tables {
         run_all(&rt, cases)?;

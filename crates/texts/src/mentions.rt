@@ -1,7 +1,7 @@
 // Letters without group and constants past the limit: refusals 7 and 8. The comment at a case says why; `stdout` says what is due.
 use crate::case::{Case, Part, ROOM};
 
-pub(crate) static CASES: [Case; 15] = [
+pub(crate) static CASES: &[Case] = &[
     // no group B
     Case {
         name: "letter without group",
