@@ -18,7 +18,7 @@ pub struct Bench<S, Q, L> {
 pub trait Devices {
     ghost means: { Self → Meaning };
 
-    // Makes one call of the device that it is for.
+    // Makes one call of the device that it is for. Calls are values and no closures, since they are printed and compared.
     fn ask(&mut self, call: Call) -> Result<Reply, Denial>
         ensures answer { by_number result ≡ answered (means self.old) call }
         ensures after { means self.new ≡ left (means self.old) call };
@@ -43,6 +43,7 @@ impl<S: WordStore, Q: ReadingQueue, L: LabelLine> Devices for Bench<S, Q, L> {
                 self.readings.add(number)?;
                 Reply::Done
             }
+            // a cast, since `usize` has no `From` to `u64`
             Call::Count => Reply::Number(self.label.count() as u64),
             Call::Code(place) => Reply::Number(u64::from(self.label.code(place)?)),
             Call::Clear => {

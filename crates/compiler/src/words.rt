@@ -53,6 +53,7 @@ impl Field {
         requires { place ≤ 46 }
         ensures { result ≡ constant_cell place }
     {
+        // a cast, since `usize` has no `From` to `u64`; so below
         Field::of(CONSTANTS + place as u64)
     }
 

@@ -7,7 +7,8 @@ use rules::limits::{CELL_COUNT, LABEL_LIMIT, QUEUE_LIMIT};
 use std::alloc::{AllocError, Global};
 
 // Rows of many like calls: a number of its own into every cell, and every cell; numbers from 1 on into a queue, and looking at
-// each waiting number and taking it; codes up to the greatest onto a label, and every code.
+// each waiting number and taking it; codes up to the greatest onto a label, and every code. Names and no closures, so that each
+// row is promised by its name.
 #[derive(Clone, Copy)]
 pub enum Many {
     FillStore,
@@ -35,6 +36,7 @@ impl Many {
         requires { index < 1000 }
         ensures { result ≡ call_at self index }
     {
+        // a cast, since `usize` has no `From` to `u64`
         let number = index as u64;
         match self {
             Many::FillStore => Call::Store(index, 99_999_999_999_999 - number),

@@ -6,7 +6,7 @@ ghost use Rattle.digits.specs.Examples.{Examples};
 pub mod line;
 mod text;
 
-// The worked examples hold of the definitions.
+// The worked examples hold of the definitions of this crate, which no other crate knows.
 pub fn examples_stand()
     ensures { Examples }
 {}

@@ -11,7 +11,8 @@ use rules::refusal::Cause;
 // Forty-eight codes of three digits, each with its comma.
 const LINE_BYTES: usize = 192;
 
-// A label line in digits and commas: each code in digits, followed by a comma.
+// A label line in digits and commas: each code in digits, followed by a comma. A type of its own beside the queue in digits,
+// since each is a kind of its own trait; what they share is `NumberLine`.
 #[derive(Drop)]
 pub struct DigitLine {
     line: NumberLine<LINE_BYTES>,

@@ -13,7 +13,8 @@ use rules::refusal::Refusal;
 // Sixteen numbers of fourteen digits, each with its comma.
 const LINE_BYTES: usize = 240;
 
-// A queue in a line of bytes: each number in digits, followed by a comma, the first number in front.
+// A queue in a line of bytes: each number in digits, followed by a comma, the first number in front. A type of its own beside
+// the label line in digits, since each is a kind of its own trait; what they share is `NumberLine`.
 #[derive(Drop)]
 pub struct DigitQueue {
     line: NumberLine<LINE_BYTES>,

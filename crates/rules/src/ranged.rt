@@ -65,3 +65,14 @@ impl<const FIRST: u64, const COUNT: u64> TryFrom<u64> for Ranged<FIRST, COUNT> {
         }
     }
 }
+
+impl<const FIRST: u64, const COUNT: u64> TryFrom<usize> for Ranged<FIRST, COUNT> {
+    type Error = OutOfRange;
+
+    ghost try_from_gives = { λ n r. r ≡ ranged FIRST COUNT n };
+
+    fn try_from(value: usize) -> Result<Self, OutOfRange> {
+        // a cast, since `usize` has no `From` to `u64`
+        Ranged::try_from(value as u64)
+    }
+}

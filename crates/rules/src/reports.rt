@@ -8,7 +8,7 @@ use crate::refusal::{Cause, Fault, Position, Refusal, Report, TextRefusal};
 use std::fmt;
 
 impl Fault {
-    // The refusal of a text whose line fails at a place.
+    // The refusal of a text whose line fails at a place. No `From`: it takes three values.
     pub fn at(self, line: usize, place: usize) -> TextRefusal
         ensures { result ≡ placed self line place }
     {
@@ -56,6 +56,7 @@ impl fmt::Display for Report {
     }
 }
 
+// One line for each of the three, since `From` asks for an impl for each type.
 impl From<Refusal> for u8 {
     ghost from_gives = { λ r n. n ≡ refusal_number r };
 

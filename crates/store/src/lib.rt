@@ -10,7 +10,7 @@ pub(crate) mod table;
 pub mod word_cells;
 pub mod word_store;
 
-// The worked examples hold of the definitions.
+// The worked examples hold of the definitions of this crate, which no other crate knows.
 pub fn examples_stand()
     ensures { Examples }
 {}

@@ -32,7 +32,7 @@ impl PackedCells {
     pub fn bytes(&self, address: usize) -> Result<[u8; CELL_BYTES], Refusal>
         ensures { numbered result ≡ packed_cell (packed_cells self.now) address }
     {
-        let address = Address::try_from(address as u64)?;
+        let address = Address::try_from(address)?;
         Ok(self.table.get(address))
     }
 }

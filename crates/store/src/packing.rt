@@ -9,6 +9,7 @@ fn join_digits(pair: u64) -> u8
     requires { pair < 100 }
     ensures { result ≡ pair_byte pair }
 {
+    // at most 9 * 16 + 9, so the cast loses nothing
     (pair / 10 * 16 + pair % 10) as u8
 }
 

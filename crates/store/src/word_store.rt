@@ -22,7 +22,7 @@ pub trait WordStore {
     fn load(&self, address: usize) -> Result<u64, Refusal>
         ensures { numbered result ≡ loaded (cells self.now) address }
     {
-        let address = Address::try_from(address as u64)?;
+        let address = Address::try_from(address)?;
         Ok(self.get(address))
     }
 
@@ -31,7 +31,7 @@ pub trait WordStore {
         ensures answer { numbered result ≡ answer_of (stored (cells self.old) address number) }
         ensures after { cells self.new ≡ left_by (stored (cells self.old) address number) (cells self.old) }
     {
-        let address = Address::try_from(address as u64)?;
+        let address = Address::try_from(address)?;
         let number = Number::try_from(number)?;
         self.set(address, number);
         Ok(())
