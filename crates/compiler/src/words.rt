@@ -13,7 +13,8 @@ use rules::table::transfer;
 use rules::tape::{CONSTANT_CODE, HEAD_MARK};
 use std::marker::Model;
 
-// An address as a word holds it, in four digits: a cell, what a cell points to, an organ or a register.
+// An address as a word holds it, in four digits: a cell, what a cell points to, an organ or a register. Not one more `Ranged`,
+// since it is made of what is known to be in range, and a public constructor may ask nothing of its caller.
 #[derive(Clone, Copy)]
 pub(crate) struct Field {
     value: u64,
@@ -39,9 +40,8 @@ impl Field {
         Field { value }
     }
 
-    // An atom or a target holds a plain byte. So the difference to its first letter is one that cannot fall below 0, here and
-    // in the next two.
-    // The cell of a letter, in the cells of an alphabet that begins with `first`.
+    // The cell of a letter, in the cells of an alphabet that begins with `first`. An atom or a target holds a plain byte, so the
+    // difference is one that cannot fall below 0.
     fn letter(cells: u64, first: u8, letter: u8) -> Field
         requires { cells ≤ 1002 }
         ensures { result ≡ cells + (letter - first) }
