@@ -1,14 +1,12 @@
 -- A pair's operations, as the code puts them together.
-use Rattle.std.proofs.Common.{◌≡◌, ℕ, List, [], ◌∷◌, ◌++◌, Ok, Err, Result, refl, append_assoc}
+use Rattle.std.proofs.Common.{◌≡◌, ℕ, List, [], ◌∷◌, ◌++◌, append_assoc}
 use Rattle.rules.specs.declared.sign.Sign.{Sign}
 use Rattle.rules.specs.declared.operation.Source.{Source}
 use Rattle.rules.specs.declared.operation.Operation.{Operation}
 use Rattle.rules.specs.Tree.{Operand, pair}
-use Rattle.rules.specs.Reading.{got, sign_at, operand_at, second_at, pair_at}
+use Rattle.rules.specs.Reading.{got, sign_at, operand_at, second_at}
 use Rattle.rules.specs.Operations.{source, waiting_after, operations}
-use Rattle.reader.specs.declared.failure.Failure.{Failure}
-use Rattle.reader.specs.declared.cursor.Cursor.{Cursor}
-use Rattle.reader.specs.Pairs.{added, SecondRead, PairRead}
+use Rattle.reader.specs.Pairs.{added}
 
 -- the right operand's operations and then the pair's own
 pub adds : (h h₁ h₂ : List Operation) (left b : Source) (r : Operand) (s : Sign) (w v : ℕ) → h₁ ≡ h ++ operations r v → h₂ ≡ h₁ ++ (record { left = left; sign = s; right = b; result = w } ∷ []) → b ≡ source r v → v ≡ waiting_after left w → h₂ ≡ h ++ added left s r w

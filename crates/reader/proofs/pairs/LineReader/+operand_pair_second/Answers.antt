@@ -1,7 +1,6 @@
-use Rattle.std.proofs.Common.{◌≡◌, ◌++◌, refl, ap, ◌∙◌, append-nil, rules}
+use Rattle.std.proofs.Common.{refl, append-nil, rules}
 use Rattle.rules.specs.declared.formula.Atom.TheVariants.{Variable, Pointed, Letter, Constant}
 use Rattle.rules.specs.Tree.{atom}
-use Rattle.rules.specs.Operations.{operations}
 use Rattle.reader.proofs.Emits.{adds, second_is}
 use Rattle.reader.proofs.Operands.{none_fails, opens_none, opens_fails, opens_unclosed, opens, variable_is, letter_is, points, points_fails, constant_is, constant_fails, other_fails}
 use Rattle.reader.proofs.pairs.LineReader.+operand_pair_second.Goals as goal
