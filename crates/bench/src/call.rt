@@ -1,7 +1,7 @@
 use rules::refusal::{Cause, Refusal};
 
 // What can be asked of the three devices: of the store, the reading queue and the label line.
-#[derive(Clone, Copy)]
+#[derive(Clone, Copy, Debug, PartialEq, Eq)]
 pub enum Call {
     Load(usize),
     Store(usize, u64),
@@ -15,7 +15,7 @@ pub enum Call {
 }
 
 // What a device answers: that it was done, a number, or that nothing waits.
-#[derive(Clone, Copy, PartialEq, Eq)]
+#[derive(Clone, Copy, Debug, PartialEq, Eq)]
 pub enum Reply {
     Done,
     Number(u64),
@@ -23,7 +23,7 @@ pub enum Reply {
 }
 
 // Why a device answers nothing: it refuses the call, or the label stops.
-#[derive(Clone, Copy, PartialEq, Eq)]
+#[derive(Clone, Copy, Debug, PartialEq, Eq)]
 pub enum Denial {
     Refused(Refusal),
     Stopped(Cause),

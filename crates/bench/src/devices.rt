@@ -18,7 +18,7 @@ pub struct Bench<S, Q, L> {
 pub trait Devices {
     ghost means: { Self → Meaning };
 
-    // Makes one call of the device that it is for. Calls are values and no closures, since they are printed and compared.
+    // Makes one call of the device that it is for. Calls are values and no closures, since they are printed.
     fn ask(&mut self, call: Call) -> Result<Reply, Denial>
         ensures answer { by_number result ≡ answered (means self.old) call }
         ensures after { means self.new ≡ left (means self.old) call };

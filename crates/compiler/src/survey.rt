@@ -5,6 +5,7 @@ ghost use Rattle.reader.specs.Lines.{side_of};
 
 use crate::groups::Groups;
 use crate::lines::Lines;
+use reader::failure::Misread;
 use reader::line::{Side, read_line};
 use rules::limits::{INSTRUCTION_LIMIT, LINE_LIMIT};
 use rules::ranged::Letter;
@@ -86,7 +87,7 @@ impl Survey {
         // A `match`, since through `map_err` and `?` the proof would not know what was read.
         let read = match read_line(bytes) {
             Ok(read) => read,
-            Err(misread) => return Err(misread.fault.at(line, misread.place)),
+            Err(Misread { fault, place }) => return Err(fault.at(Position { line, place })),
         };
         if !self.groups.admits(read.group) {
             return Err(TextRefusal::GroupOutOfPlace(Position { line, place: 1 }));
@@ -104,7 +105,7 @@ impl Survey {
         let line = self.lines + 1;
         if !rest.is_empty() {
             let place = rest.len().min(LINE_LIMIT) + 1;
-            return Err(Fault::LineEndMissing.at(line, place));
+            return Err(Fault::LineEndMissing.at(Position { line, place }));
         }
         if !self.groups.all_closed() {
             return Err(TextRefusal::GroupOutOfPlace(Position { line, place: 0 }));

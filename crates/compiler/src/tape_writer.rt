@@ -15,8 +15,8 @@ use rules::operation::Operation;
 use rules::ranged::Letter;
 use rules::tape::END_WORD;
 
-// The words of a tape, put one behind the other at the front of a buffer. The buffer is lent, so that how many words stand in
-// it stands beside it. The constants of its text are known.
+// The words of a tape, put one behind the other at the front of a buffer. The buffer is lent, so a count of
+// its words is kept beside it. The constants of its text are known.
 #[derive(Drop)]
 pub(crate) struct TapeWriter<'t> {
     constants: &'t Constants,
@@ -53,7 +53,7 @@ impl<'t> TapeWriter<'t> {
     {
         let held = self.constants.as_slice();
         for (place, number) in held.iter().enumerate() {
-            self.put(constant_word(place));
+            self.put(constant_word(Field::constant(place)));
             self.put(*number);
         }
     }

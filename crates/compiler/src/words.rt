@@ -49,7 +49,7 @@ impl Field {
         Field::of(cells + u64::from(letter.saturating_sub(first)))
     }
 
-    fn constant(place: usize) -> Field
+    pub(crate) fn constant(place: usize) -> Field
         requires { place ≤ 46 }
         ensures { result ≡ constant_cell place }
     {
@@ -106,13 +106,12 @@ fn word(left: Field, code: u8, right: Field, target: Field) -> u64
         + target.value
 }
 
-// The word before a constant.
-pub(crate) fn constant_word(place: usize) -> u64
-    requires { place ≤ 46 }
-    ensures { result ≡ word_of 0 constant_code 0 (constant_cell place) }
+// The word before the constant of a cell.
+pub(crate) fn constant_word(cell: Field) -> u64
+    ensures { result ≡ word_of 0 constant_code 0 cell }
 {
     let none = Field::of(0);
-    word(none, CONSTANT_CODE, none, Field::constant(place))
+    word(none, CONSTANT_CODE, none, cell)
 }
 
 // The word at the head of a group.

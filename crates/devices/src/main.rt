@@ -27,107 +27,112 @@ type Benches = Pair<
 // How often the queues are filled and emptied.
 const ROUNDS: usize = 10_000;
 
-// Prints a row for each call.
-fn show(rt: &HostRuntime, benches: &mut Benches, calls: &[Call]) -> anyhow::Result<()> {
-    for call in calls {
-        let line = benches.row(rt.alloc(), *call)?;
-        println!(rt; "{line}")?;
+// The benches that are asked, and where their answers are printed.
+#[derive(Drop)]
+struct Comparison<'r> {
+    rt: &'r HostRuntime,
+    benches: Benches,
+}
+
+impl<'r> Comparison<'r> {
+    // Prints a row for each call.
+    fn show(&mut self, calls: &[Call]) -> anyhow::Result<()> {
+        for call in calls {
+            let line = self.benches.row(self.rt.alloc(), *call)?;
+            println!(self.rt; "{line}")?;
+        }
+        Ok(())
     }
-    Ok(())
-}
 
-// Makes many calls, and prints how many of them were answered alike.
-fn count(rt: &HostRuntime, benches: &mut Benches, what: &str, many: Many) -> anyhow::Result<()> {
-    let calls = many.calls(rt.alloc())?;
-    let same = benches.alike(&calls);
-    println!(rt; "{what}: {same} of {} calls answered alike", calls.len())?;
-    Ok(())
-}
-
-fn stores(rt: &HostRuntime, benches: &mut Benches) -> anyhow::Result<()> {
-    rt.println("store: 64-bit words | packed decimal")?;
-    show(rt, benches, exercise::STORE_LIMITS)?;
-    count(rt, benches, "fill every cell", Many::FillStore)?;
-    count(rt, benches, "read every cell", Many::ReadStore)?;
-    show(rt, benches, exercise::STORE_FILLED)
-}
-
-// Fills and empties the queues many times.
-fn rounds(rt: &HostRuntime, benches: &mut Benches) -> anyhow::Result<()> {
-    let fill = Many::FillQueue.calls(rt.alloc())?;
-    let take = Many::TakeAll.calls(rt.alloc())?;
-    let mut same: usize = 0;
-    for _ in 0..ROUNDS {
-        same = same
-            .saturating_add(benches.alike(&fill))
-            .saturating_add(benches.alike(&take));
+    // Makes many calls, and prints how many of them were answered alike.
+    fn count(&mut self, what: &str, many: Many) -> anyhow::Result<()> {
+        let calls = many.calls(self.rt.alloc())?;
+        let same = self.benches.alike(&calls);
+        println!(self.rt; "{what}: {same} of {} calls answered alike", calls.len())?;
+        Ok(())
     }
-    println!(rt; "filled and emptied {ROUNDS} times: {same} calls answered alike")?;
-    Ok(())
-}
 
-fn queues(rt: &HostRuntime, benches: &mut Benches) -> anyhow::Result<()> {
-    rt.println("readings: ring of words | digits and commas")?;
-    show(rt, benches, exercise::QUEUE_EMPTY)?;
-    count(rt, benches, "fill the queue", Many::FillQueue)?;
-    show(rt, benches, exercise::QUEUE_FULL)?;
-    show(rt, benches, exercise::QUEUE_AGAIN)?;
-    count(rt, benches, "take all", Many::TakeAll)?;
-    rounds(rt, benches)?;
-    count(rt, benches, "fill the queue", Many::FillQueue)?;
-    show(rt, benches, exercise::QUEUE_FULL)
-}
-
-fn labels(rt: &HostRuntime, benches: &mut Benches) -> anyhow::Result<()> {
-    rt.println("label: one byte a code | digits and commas")?;
-    show(rt, benches, exercise::LABEL_EMPTY)?;
-    count(rt, benches, "fill the label", Many::FillLabel)?;
-    count(rt, benches, "read the label", Many::ReadLabel)?;
-    show(rt, benches, exercise::LABEL_FULL)
-}
-
-// What works on any kind: clearing a store, emptying a queue, copying a label line.
-fn any_kind(rt: &HostRuntime, benches: &mut Benches) -> anyhow::Result<()> {
-    rt.println("what works on any kind: words, ring, bytes | packed, digits, digits")?;
-    clear(&mut benches.first.store);
-    clear(&mut benches.second.store);
-    count(
-        rt,
-        benches,
-        "clear the store and read every cell",
-        Many::ReadStore,
-    )?;
-    show(rt, benches, exercise::STORE_FILLED)?;
-    let left = empty(&mut benches.first.readings);
-    let right = empty(&mut benches.second.readings);
-    println!(rt; "empty the queue: {left} | {right}")?;
-    for code in [72, 105] {
-        let _ = benches.first.ask(Call::Print(code));
+    fn stores(&mut self) -> anyhow::Result<()> {
+        self.rt.println("store: 64-bit words | packed decimal")?;
+        self.show(exercise::STORE_LIMITS)?;
+        self.count("fill every cell", Many::FillStore)?;
+        self.count("read every cell", Many::ReadStore)?;
+        self.show(exercise::STORE_FILLED)
     }
-    copy(&benches.first.label, &mut benches.second.label);
-    rt.println("print 72 and 105 on the first label, copy it to the second")?;
-    show(rt, benches, exercise::LABEL_COPIED)
-}
 
-fn run(rt: &HostRuntime) -> anyhow::Result<()> {
-    let mut benches = Pair {
-        first: Bench {
-            store: WordCells::new(),
-            readings: RingQueue::new(),
-            label: ByteLine::new(),
-        },
-        second: Bench {
-            store: PackedCells::new(),
-            readings: DigitQueue::new(),
-            label: DigitLine::new(),
-        },
-    };
-    stores(rt, &mut benches)?;
-    queues(rt, &mut benches)?;
-    labels(rt, &mut benches)?;
-    any_kind(rt, &mut benches)
+    // Fills and empties the queues many times.
+    fn rounds(&mut self) -> anyhow::Result<()> {
+        let fill = Many::FillQueue.calls(self.rt.alloc())?;
+        let take = Many::TakeAll.calls(self.rt.alloc())?;
+        let mut same: usize = 0;
+        for _ in 0..ROUNDS {
+            same = same
+                .saturating_add(self.benches.alike(&fill))
+                .saturating_add(self.benches.alike(&take));
+        }
+        println!(self.rt; "filled and emptied {ROUNDS} times: {same} calls answered alike")?;
+        Ok(())
+    }
+
+    fn queues(&mut self) -> anyhow::Result<()> {
+        self.rt
+            .println("readings: ring of words | digits and commas")?;
+        self.show(exercise::QUEUE_EMPTY)?;
+        self.count("fill the queue", Many::FillQueue)?;
+        self.show(exercise::QUEUE_FULL)?;
+        self.show(exercise::QUEUE_AGAIN)?;
+        self.count("take all", Many::TakeAll)?;
+        self.rounds()?;
+        self.count("fill the queue", Many::FillQueue)?;
+        self.show(exercise::QUEUE_FULL)
+    }
+
+    fn labels(&mut self) -> anyhow::Result<()> {
+        self.rt
+            .println("label: one byte a code | digits and commas")?;
+        self.show(exercise::LABEL_EMPTY)?;
+        self.count("fill the label", Many::FillLabel)?;
+        self.count("read the label", Many::ReadLabel)?;
+        self.show(exercise::LABEL_FULL)
+    }
+
+    // What works on any kind: clearing a store, emptying a queue, copying a label line.
+    fn any_kind(&mut self) -> anyhow::Result<()> {
+        self.rt.println("what works on any kind: words, ring, bytes | packed, digits, digits")?;
+        clear(&mut self.benches.first.store);
+        clear(&mut self.benches.second.store);
+        self.count("clear the store and read every cell", Many::ReadStore)?;
+        self.show(exercise::STORE_FILLED)?;
+        let left = empty(&mut self.benches.first.readings);
+        let right = empty(&mut self.benches.second.readings);
+        println!(self.rt; "empty the queue: {left} | {right}")?;
+        for code in [72, 105] {
+            let _ = self.benches.first.ask(Call::Print(code));
+        }
+        copy(&self.benches.first.label, &mut self.benches.second.label);
+        self.rt.println("print 72 and 105 on the first label, copy it to the second")?;
+        self.show(exercise::LABEL_COPIED)
+    }
 }
 
 fn main(rt: HostRuntime) -> anyhow::Result<()> {
-    run(&rt)
+    let mut comparison = Comparison {
+        rt: &rt,
+        benches: Pair {
+            first: Bench {
+                store: WordCells::new(),
+                readings: RingQueue::new(),
+                label: ByteLine::new(),
+            },
+            second: Bench {
+                store: PackedCells::new(),
+                readings: DigitQueue::new(),
+                label: DigitLine::new(),
+            },
+        },
+    };
+    comparison.stores()?;
+    comparison.queues()?;
+    comparison.labels()?;
+    comparison.any_kind()
 }

@@ -9,7 +9,7 @@ use std::alloc::{AllocError, Global};
 // Rows of many like calls: a number of its own into every cell, and every cell; numbers from 1 on into a queue, and looking at
 // each waiting number and taking it; codes up to the greatest onto a label, and every code. Names and no closures, so that each
 // row is promised by its name.
-#[derive(Clone, Copy)]
+#[derive(Clone, Copy, Debug, PartialEq, Eq)]
 pub enum Many {
     FillStore,
     ReadStore,

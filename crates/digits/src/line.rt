@@ -10,7 +10,7 @@ use std::marker::Model;
 #[derive(Drop)]
 pub struct NumberLine<const N: usize> {
     bytes: ArrayVec<u8, N>,
-    // how many numbers stand there: to count the commas, `count` would have to walk over all the bytes
+    // how many numbers stand there: each push on a device asks, and to count the commas would be no plainer
     count: usize,
 }
 

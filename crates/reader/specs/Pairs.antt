@@ -15,6 +15,10 @@ use Rattle.reader.specs.declared.pairs.LineReader.{LineReader}
 abbrev pub weight : LineReader → ℕ
 weight c = 4 * array_vec_len c.operations + length c.cursor.rest.now
 
+-- so many parentheses may be opened inside a pair, and so many results wait
+abbrev pub Nested : ℕ → ℕ → Type 0
+Nested room waiting = room + waiting ≤ 16
+
 -- there is room for the operations of what is left
 abbrev pub Spare : ℕ → LineReader → Type 0
 Spare most c = weight c ≤ most

@@ -85,13 +85,11 @@ impl<'a> Cursor<'a> {
         let [head, rest @ ..] = self.rest else {
             return Err(self.out_of_place());
         };
-        match sign_of(*head) {
-            Some(sign) => {
-                self.rest = rest;
-                Ok(sign)
-            }
-            None => Err(self.out_of_place()),
-        }
+        let Some(sign) = sign_of(*head) else {
+            return Err(self.out_of_place());
+        };
+        self.rest = rest;
+        Ok(sign)
     }
 
     // The constant that the bytes begin with.

@@ -52,6 +52,7 @@ impl<'a> Cursor<'a> {
             return Err(self.out_of_place());
         };
         self.rest = after;
+        // by its slice, as a line reads: a letter, a comma, the rest
         match line {
             [_letter, comma, rest @ ..] if *comma == b',' => {
                 self.rest = rest;
@@ -143,6 +144,7 @@ pub fn read_line(text: &[u8]) -> Result<ReadLine, Misread>
         cursor: Cursor { rest: text },
         operations: ArrayVec::new(),
     };
+    // no `map_err`: that a failure leaves no more bytes than there were is known of this one only
     match reader.line() {
         Ok(line) => Ok(line),
         Err(e) => Err(Misread {

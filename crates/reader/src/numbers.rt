@@ -24,6 +24,7 @@ fn number(digits: &[u8]) -> u64
     requires digits { Digits digits.now }
     ensures { result ≡ number_of digits.now }
 {
+    // no `fold`, whose closure would have to be safe after any digits; no `parse`, which may fail
     let mut number = 0;
     for d in digits {
         number = number * 10 + u64::from(*d - b'0');

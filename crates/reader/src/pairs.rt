@@ -1,7 +1,7 @@
 ghost use Rattle.std.specs.Prelude.{◌≡◌, ◌+◌, ◌≤◌, IfOk, MatchOption};
 ghost use Rattle.rules.specs.Reading.{depth_limit, operand_at, pair_at, second_at};
 ghost use Rattle.rules.specs.Operations.{waiting_after};
-ghost use Rattle.reader.specs.Pairs.{OperandRead, PairRead, SecondRead, Spare, weight};
+ghost use Rattle.reader.specs.Pairs.{OperandRead, PairRead, SecondRead, Nested, Spare, weight};
 
 use crate::cursor::{Cursor, start};
 use crate::failure::Failure;
@@ -54,7 +54,7 @@ impl Depth {
 
     // Once an operand is at hand, whose result may wait.
     fn after(self, operand: Source) -> Depth
-        requires { self.room + self.waiting ≤ 16 }
+        requires { Nested self.room self.waiting }
         ensures room { result.room ≡ self.room }
         ensures waiting { result.waiting ≡ waiting_after operand self.waiting }
     {
@@ -103,7 +103,7 @@ impl<'a> LineReader<'a> {
     // A pair: an operand, a sign and an operand.
     #[cycle(operand_pair_second)]
     fn pair(&mut self, depth: Depth) -> Result<(), Failure>
-        requires nested { depth.room + depth.waiting ≤ 16 }
+        requires nested { Nested depth.room depth.waiting }
         requires spare { Spare 78 self.old }
         ensures reads { PairRead (pair_at depth.room self.old.cursor.rest.now) depth.waiting self.old result self.new }
         ensures spent { IfOk result (λ _. weight self.new ≤ weight self.old + 1) }
@@ -115,7 +115,7 @@ impl<'a> LineReader<'a> {
     // What follows the left operand of a pair: a sign and the right operand. The pair's own operation comes last.
     #[cycle(operand_pair_second)]
     pub(crate) fn second(&mut self, left: Source, depth: Depth) -> Result<(), Failure>
-        requires nested { depth.room + depth.waiting ≤ 16 }
+        requires nested { Nested depth.room depth.waiting }
         requires spare { Spare 77 self.old }
         ensures reads { SecondRead (second_at depth.room self.old.cursor.rest.now) left depth.waiting self.old result self.new }
         ensures spent { IfOk result (λ _. weight self.new ≤ weight self.old + 2) }

@@ -8,7 +8,8 @@ pub enum Atom {
     Constant(u64),
 }
 
-// Where a line's result goes: a variable, the data cell that a variable points to, the label, or the place register.
+// Where a line's result goes: a variable, the data cell that a variable points to, the label, or the place register. Variables by
+// their byte, for the same reason.
 #[derive(Clone, Copy, Debug, PartialEq, Eq)]
 pub enum Target {
     Variable(u8),

@@ -1,6 +1,7 @@
 ghost use Rattle.std.specs.Prelude.{◌≡◌, ◌+◌, ◌-◌, ◌<◌, ◌≤◌};
 ghost use Rattle.rules.specs.Ranges.{ranged};
 
+use crate::limits::NUMBER_LIMIT;
 use std::marker::Model;
 
 // One of COUNT numbers from FIRST on.
@@ -14,9 +15,9 @@ pub struct Ranged<const FIRST: u64, const COUNT: u64> {
 pub struct OutOfRange;
 
 // A number of at most fourteen digits: what a cell holds, and what the scale reads.
-pub type Number = Ranged<0, 100_000_000_000_000>;
+pub type Number = Ranged<0, NUMBER_LIMIT>;
 
-// The place of a cell in a store.
+// The place of a cell in a store: one of CELL_COUNT, written out since a const argument is not computed from a `usize`.
 pub type Address = Ranged<0, 1_000>;
 
 // The letter of a group, by its byte.
@@ -48,6 +49,7 @@ impl<const FIRST: u64, const COUNT: u64> Ranged<FIRST, COUNT> {
         ensures is { result ≡ self.entry - FIRST }
         ensures few { result < COUNT }
     {
+        // 64 bits both, so the cast loses nothing
         (self.get() - FIRST) as usize
     }
 }

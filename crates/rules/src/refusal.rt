@@ -26,7 +26,7 @@ pub enum TextRefusal {
     TapeTooShort,
 }
 
-// A refusal as it is shown: its number, and where; line or place is 0 where none is named.
+// A refusal as it is shown to a packer, so by its number, and where; line or place is 0 where none is named, as it is printed.
 #[derive(Clone, Copy, Debug, PartialEq, Eq)]
 pub struct Report {
     pub number: u8,

@@ -8,19 +8,11 @@ use crate::refusal::{Cause, Fault, Position, Refusal, Report, TextRefusal};
 use std::fmt;
 
 impl Fault {
-    // The refusal of a text whose line fails at a place. No `From`: it takes three values.
-    pub fn at(self, line: usize, place: usize) -> TextRefusal
-        ensures { result ≡ placed self line place }
+    // The refusal of a text whose line fails at a place.
+    pub fn at(self, position: Position) -> TextRefusal
+        ensures { result ≡ placed self position.line position.place }
     {
-        TextRefusal::Unreadable(self, Position { line, place })
-    }
-}
-
-impl From<Fault> for u8 {
-    ghost from_gives = { λ f n. n ≡ fault_number f };
-
-    fn from(fault: Fault) -> u8 {
-        fault as u8
+        TextRefusal::Unreadable(self, position)
     }
 }
 
@@ -56,7 +48,15 @@ impl fmt::Display for Report {
     }
 }
 
-// One line for each of the three, since `From` asks for an impl for each type.
+// Three impls of one line, since `From` asks for one for each type; the cast gives the number that a case is worth.
+impl From<Fault> for u8 {
+    ghost from_gives = { λ f n. n ≡ fault_number f };
+
+    fn from(fault: Fault) -> u8 {
+        fault as u8
+    }
+}
+
 impl From<Refusal> for u8 {
     ghost from_gives = { λ r n. n ≡ refusal_number r };
 

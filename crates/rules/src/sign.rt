@@ -19,7 +19,8 @@ pub struct WrittenSign {
     pub byte: u8,
 }
 
-// One of the nine codes of a word: the sign that stands for it, if one does, its number, and how many operands it works on.
+// One of the nine codes of a word: the sign that stands for it, if one does, its number, and how many operands it works on (of a
+// code in a word that is not known from its sign).
 #[derive(Clone, Copy, Debug, PartialEq, Eq)]
 pub struct CodeRow {
     pub written: Option<WrittenSign>,

@@ -119,7 +119,7 @@ impl CodeRow {
 }
 
 impl Sign {
-    // The sign's row in the table.
+    // The sign's row in the table, which is the number that the sign is worth.
     pub fn row(self) -> CodeRow
         ensures { result ≡ sign_row self }
     {

@@ -29,7 +29,8 @@ fn keep(text: &mut Vec<u8>, chunk: &[u8], most: usize) -> Result<(), AllocError>
     text.extend_from_slice(chunk)
 }
 
-// Reads once more, keeps what the text has room for, and says how many bytes were read: 0 at the end of the input.
+// Reads once more, keeps what the text has room for, and says how many bytes were read: 0 at the end of the input. By hand and
+// not by `read_to_end`, so that `keep` can promise what is kept.
 fn read_more(input: &mut impl Read, chunk: &mut [u8], text: &mut Vec<u8>) -> io::Result<usize> {
     let count = input.read(chunk)?;
     keep(text, &chunk[..count], MOST_BYTES)?;

@@ -5,6 +5,7 @@ use std::alloc::{AllocError, Global};
 pub const ROOM: usize = 500;
 
 // A part of a text.
+#[derive(Clone, Copy, Debug, PartialEq, Eq)]
 pub enum Part {
     Plain(&'static str),
     // the same text so many times
@@ -19,6 +20,7 @@ pub enum Part {
 }
 
 // A text of the table.
+#[derive(Clone, Copy, Debug, PartialEq, Eq)]
 pub struct Case {
     pub name: &'static str,
     pub parts: &'static [Part],
