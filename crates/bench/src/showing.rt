@@ -45,7 +45,7 @@ impl fmt::Display for Denial {
 
 // What a device answered, as it is printed.
 #[derive(Clone, Copy)]
-pub(crate) struct Shown(pub(crate) Result<Reply, Denial>);
+pub struct Shown(pub Result<Reply, Denial>);
 
 impl fmt::Display for Shown {
     ghost output = { λ shown. Some (answer_text (by_number shown.0)) };

@@ -73,7 +73,8 @@ impl Constants {
         let mut inside = false;
         for (i, byte) in side.iter().enumerate() {
             let digit = is_digit(*byte);
-            if digit && !inside {
+            let outside = !inside;
+            if digit && outside {
                 let place = SIDE_PLACE + i;
                 self.take_first(&side[i..], Position { line, place })?;
             }

@@ -2,3 +2,4 @@ mod Keeping
 pub mod Rows
 mod Splits
 mod Shown
+mod Numerals

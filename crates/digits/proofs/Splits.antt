@@ -1,14 +1,13 @@
 -- A row's bytes, cut at the commas.
-use Rattle.std.proofs.Common.{◌≡◌, ℕ, zero, suc, ◌+◌, ◌-◌, ◌*◌, ◌/◌, ◌%◌, ◌^◌, ◌<◌, ◌≤◌, false, eqb, List, [], ◌∷◌, ◌++◌, length, Some, None, decimal, Option, refl, ap, ◌∙◌, append_assoc, arith}
-use Rattle.std.specs.List.{All, position_or_len, slice_get, slice_split}
+use Rattle.std.proofs.Common.{◌≡◌, ℕ, ◌+◌, ◌-◌, ◌*◌, ◌/◌, ◌%◌, ◌^◌, ◌<◌, ◌≤◌, false, eqb, List, [], ◌∷◌, ◌++◌, length, decimal, ap, ◌∙◌, append_assoc, arith}
+use Rattle.std.specs.List.{All, position_or_len}
 use Rattle.std.proofs.Math.Seq.{get_or-append_seam}
 use Rattle.std.proofs.lemmas.List.{length-append, get_or_append_left}
 use Rattle.std.proofs.lemmas.List.Sums.{position_or_len_is}
 use Rattle.std.proofs.lemmas.Fmt.{decimal_by_steps}
 use Rattle.std.proofs.lemmas.List.Elements.{All-nil, All-push}
-use Rattle.std.proofs.lemmas.List.Splits.{slice_split_at}
 use Rattle.std.proofs.lemmas.Bool.{ne_eqb}
-use Rattle.digits.specs.Text.{line_of, Below}
+use Rattle.digits.specs.Text.{line_of}
 
 -- What a reader that takes up digits one by one makes of a number's digits is the number.
 pub through_digits : {X : Type 0} (F : ℕ → List ℕ → X) → ((n b : ℕ) (bs : List ℕ) → eqb b 44 ≡ false → F n (b ∷ bs) ≡ F (n * 10 + (b - 48)) bs) → (n : ℕ) → n < 2 ^ 64 → (bs : List ℕ) → F 0 (decimal n ++ bs) ≡ F n bs
@@ -38,29 +37,6 @@ no_comma = decimal_by_steps (λ n ds. All (λ b. eqb b 44 ≡ false) ds) one mor
 
     more : (n : ℕ) (ds : List ℕ) → 10 ≤ n → All (λ b. eqb b 44 ≡ false) ds → All (λ b. eqb b 44 ≡ false) (ds ++ ((48 + n % 10) ∷ []))
     more n ds h front = All-push (λ b. eqb b 44 ≡ false) ds (48 + n % 10) front (digit (n % 10))
-
--- the parts between the commas of a row
-pub split_line : (n : ℕ) (ns : List ℕ) → n < 2 ^ 64 → slice_split (λ b. eqb b 44) (line_of (n ∷ ns)) ≡ decimal n ∷ slice_split (λ b. eqb b 44) (line_of ns)
-split_line n ns h = slice_split_at (λ b. eqb b 44) (decimal n) 44 (line_of ns) (no_comma n h) refl
-
--- The part at an index is read as the number there; the part behind the last comma is empty, and no number.
-pub read_part : (ns : List ℕ) (i : ℕ) (part : List ℕ) (r : Option ℕ) → Below (2 ^ 64) ns → Some part ≡ slice_get (slice_split (λ b. eqb b 44) (line_of ns)) i → ((n : ℕ) → n < 2 ^ 64 → part ≡ decimal n → r ≡ Some n) → (part ≡ [] → r ≡ None) → r ≡ slice_get ns i
-read_part [] zero part r below is some none = none cc
-read_part [] (suc i) part r below is some none = absurd (let z : ◌≡◌ {A = ℕ} 0 1 = cc in omega arith)
-read_part (n ∷ ns) zero part r below is some none =
-    let first = is ∙ ap (λ parts. slice_get parts 0) (split_line n ns (below 0)) in
-    some n (below 0) cc
-read_part (n ∷ ns) (suc i) part r below is some none =
-    read_part ns i part r (λ k. below (suc k)) (is ∙ ap (λ parts. slice_get parts (suc i)) (split_line n ns (below 0))) some none
-
--- where there is no part, there is no number
-pub no_part : (ns : List ℕ) (i : ℕ) → Below (2 ^ 64) ns → None ≡ slice_get (slice_split (λ b. eqb b 44) (line_of ns)) i → None ≡ slice_get ns i
-no_part [] i below is = refl
-no_part (n ∷ ns) zero below is =
-    let first = is ∙ ap (λ parts. slice_get parts 0) (split_line n ns (below 0)) in
-    absurd (let z : ◌≡◌ {A = ℕ} 0 1 = cc in omega arith)
-no_part (n ∷ ns) (suc i) below is =
-    no_part ns i (λ k. below (suc k)) (is ∙ ap (λ parts. slice_get parts (suc i)) (split_line n ns (below 0)))
 
 -- the first comma stands behind the first number's digits
 pub comma_at : (n : ℕ) (ns : List ℕ) → n < 2 ^ 64 → position_or_len (λ b. eqb b 44) (line_of (n ∷ ns)) ≡ length (decimal n)

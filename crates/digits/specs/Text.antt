@@ -1,5 +1,5 @@
 -- Rows of numbers as bytes: each number in decimal digits, then a comma (44).
-use Rattle.std.specs.Prelude.{◌≡◌, ℕ, ◌+◌, ◌-◌, ◌*◌, ◌^◌, ◌<◌, cond, List, [], ◌∷◌, ◌++◌, length, decimal, ◌==◌, slice_index}
+use Rattle.std.specs.Prelude.{◌≡◌, ℕ, ◌+◌, ◌-◌, ◌*◌, ◌^◌, ◌<◌, cond, List, [], ◌∷◌, ◌++◌, length, drop, Some, None, Option, decimal, ◌==◌, slice_index}
 
 -- the bytes of a row of numbers
 abbrev pub line_of : List ℕ → List ℕ
@@ -26,3 +26,8 @@ WellWritten bs = (bs ≡ line_of (numbers_in bs)) × Below (2 ^ 64) (numbers_in 
 -- the bytes are a row of `count` numbers
 abbrev pub Sound : List ℕ → ℕ → Type 0
 Sound bytes count = (count ≡ length (numbers_in bytes)) × WellWritten bytes
+
+-- what stands behind the first number of a row, where there is one
+abbrev pub Behind : List ℕ → Option (List ℕ) → Type 0
+Behind ns None = length ns ≡ 0
+Behind ns (Some rest) = (0 < length ns) × (rest ≡ line_of (drop 1 ns))

@@ -1,9 +1,10 @@
-ghost use Rattle.std.specs.Prelude.{◌≡◌, ◌<◌, ◌≤◌, ◌↔◌, [], ◌∷◌, ◌++◌, length, drop, IsOk, IsSome, OnOk, OnErr};
+ghost use Rattle.std.specs.Prelude.{◌≡◌, ◌^◌, ◌<◌, ◌≤◌, ◌↔◌, [], ◌∷◌, ◌++◌, length, drop, IsOk, IsSome, OnOk, OnErr};
 ghost use Rattle.std.specs.List.{slice_get};
-ghost use Rattle.digits.specs.Text.{line_of};
+ghost use Rattle.digits.specs.Text.{line_of, Below};
 
-use crate::text::{digits_at, first_comma, number_of, written};
+use crate::text::{behind_first, first_comma, first_number};
 use arrayvec::ArrayVec;
+use itoa::Buffer;
 use std::marker::Model;
 
 // A row of numbers in decimal digits, each followed by a comma, in at most N bytes. A contract sees the row.
@@ -43,12 +44,15 @@ impl<const N: usize> NumberLine<N> {
     pub fn count(&self) -> usize
         ensures { result ≡ length self.now }
     {
-        self.count
+        let NumberLine { count, .. } = self;
+        *count
     }
 
     // The digits and commas as they stand.
     pub fn as_bytes(&self) -> &[u8]
-        ensures { result.now ≡ line_of self.now }
+        ensures bytes { result.now ≡ line_of self.now }
+        ensures fits { length result.now ≤ N }
+        ensures below { Below (2 ^ 64) self.now }
     {
         self.bytes.as_slice()
     }
@@ -56,7 +60,12 @@ impl<const N: usize> NumberLine<N> {
     pub fn get(&self, index: usize) -> Option<u64>
         ensures { result ≡ slice_get self.now index }
     {
-        number_of(digits_at(&self.bytes, index)?)
+        // not by `split` and `nth`, which took half as long again
+        let mut rest = self.as_bytes();
+        for _ in 0..index {
+            rest = behind_first(rest)?;
+        }
+        first_number(rest)
     }
 
     // Puts a number behind the others, where its digits and comma find room.
@@ -65,20 +74,38 @@ impl<const N: usize> NumberLine<N> {
         ensures held { OnOk result (self.new ≡ self.old ++ (number ∷ [])) }
         ensures kept { OnErr result (self.new ≡ self.old) }
     {
+        let mut buffer = Buffer::new();
+        let digits = buffer.format(number).as_bytes();
+        if digits.len() >= self.bytes.remaining_capacity() {
+            return Err(NoRoom);
+        }
         self.bytes
-            .try_extend_from_slice(&written(number))
+            .try_extend_from_slice(digits)
             .map_err(|_| NoRoom)?;
+        self.bytes.push(b',');
         self.count += 1;
         Ok(())
     }
 
-    // Removes the first number, if there is one. The bytes behind it move to the front, so that its room serves again.
-    pub fn drop_first(&mut self) -> Option<()>
+    // Removes the first number, if there is one.
+    pub fn drop_first(&mut self)
+        ensures { self.new ≡ drop 1 self.old }
+    {
+        self.remove_first();
+    }
+
+    // Removes the first number, and says whether there was one. The bytes behind it move to the front, so that its room serves
+    // again.
+    pub fn remove_first(&mut self) -> Option<()>
         ensures there { IsSome result ↔ (0 < length self.old) }
         ensures after { self.new ≡ drop 1 self.old }
     {
         let comma = first_comma(&self.bytes)?;
-        drop(self.bytes.drain(..=comma));
+        // no `drain`, which carries what it frees through a buffer on the stack
+        let rest = comma + 1;
+        let kept = self.bytes.len() - rest;
+        self.bytes.as_mut_slice().copy_within(rest.., 0);
+        self.bytes.truncate(kept);
         self.count -= 1;
         Some(())
     }

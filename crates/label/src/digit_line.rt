@@ -31,7 +31,8 @@ impl DigitLine {
 
     // The bytes as they lie in the memory.
     pub fn as_bytes(&self) -> &[u8]
-        ensures { result.now ≡ line_of self.now.line }
+        ensures bytes { result.now ≡ line_of self.now.line }
+        ensures fits { length result.now ≤ 192 }
     {
         self.line.as_bytes()
     }

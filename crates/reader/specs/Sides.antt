@@ -1,22 +1,23 @@
--- What the reader of a side answers.
+-- What the readers of a side and of a line's parts answer, and which operations the reader then holds.
 use Rattle.std.specs.Prelude.{◌≡◌, ℕ, cond, List, [], Some, None, Option, Result, MatchResult, ◌==◌}
 use Rattle.rules.specs.declared.formula.Atom.{Atom}
 use Rattle.rules.specs.declared.operation.Source.{Source}
 use Rattle.rules.specs.declared.operation.Source.TheVariants.{Named, Temporary}
-use Rattle.rules.specs.Tree as tree
+use Rattle.rules.specs.declared.operation.SideKind.{SideKind}
+use Rattle.rules.specs.declared.operation.LineParts.{LineParts}
+use Rattle.rules.specs.Tree.{Side, Line}
 use Rattle.rules.specs.Reading.{Read, got, fails, first}
+use Rattle.rules.specs.Operations.{side_kind, side_operations, line_parts}
 use Rattle.reader.specs.declared.failure.Failure.{Failure}
-use Rattle.reader.specs.declared.line.Side.{Side}
-use Rattle.reader.specs.declared.line.ReadLine.{ReadLine}
-use Rattle.reader.specs.Lines.{side_of, line_of}
+use Rattle.reader.specs.declared.pairs.LineReader.{LineReader}
 
 -- the atom that stands alone before a comma
 abbrev pub alone : Source → List ℕ → Option Atom
 alone (Named x) xs = cond (first xs == 44) (Some x) None
 alone (Temporary t) xs = None
 
-abbrev pub SideRead : Read tree.Side → Result Side Failure → List ℕ → Type 0
-SideRead x r rest = MatchResult r (λ d. (z : tree.Side) × (x ≡ got z rest) × (d ≡ side_of z)) (λ e. x ≡ fails e.fault e.left)
+abbrev pub SideRead : Read Side → Result SideKind Failure → LineReader → Type 0
+SideRead x r after = MatchResult r (λ d. (z : Side) × (x ≡ got z after.cursor.rest.now) × (d ≡ side_kind z) × (after.operations.items ≡ side_operations z)) (λ e. x ≡ fails e.fault e.left)
 
-abbrev pub LineRead : Read tree.Line → Result ReadLine Failure → Type 0
-LineRead x r = MatchResult r (λ k. (l : tree.Line) × (x ≡ got l []) × (k ≡ line_of l)) (λ e. x ≡ fails e.fault e.left)
+abbrev pub PartsRead : Read Line → Result LineParts Failure → LineReader → Type 0
+PartsRead x r after = MatchResult r (λ k. (l : Line) × (x ≡ got l []) × (k ≡ line_parts l) × (after.operations.items ≡ side_operations l.side)) (λ e. x ≡ fails e.fault e.left)

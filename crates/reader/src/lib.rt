@@ -5,4 +5,5 @@ mod cursor;
 pub mod failure;
 pub mod line;
 pub mod numbers;
+pub mod operations;
 mod pairs;

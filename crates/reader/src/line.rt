@@ -1,15 +1,15 @@
 ghost use Rattle.std.specs.Prelude.{◌≡◌, ◌≤◌, [], length};
 ghost use Rattle.rules.specs.Reading.{opening_at, side_at, target_at, line_at, line_read};
 ghost use Rattle.reader.specs.Told.{Reads, Told, First};
-ghost use Rattle.reader.specs.Sides.{alone as alone_of, SideRead, LineRead};
+ghost use Rattle.reader.specs.Sides.{alone as alone_of, SideRead, PartsRead};
 
 use crate::cursor::{Cursor, start};
 use crate::failure::{Failure, Misread};
-use crate::pairs::{CAPACITY, Depth, LineReader};
-use arrayvec::ArrayVec;
+use crate::operations::Operations;
+use crate::pairs::{Depth, LineReader};
 use rules::formula::{Atom, Start, Target};
 use rules::limits::LINE_LIMIT;
-use rules::operation::{Operation, Source};
+use rules::operation::{LineParts, SideKind, Source};
 use rules::ranged::Letter;
 use rules::refusal::Fault;
 
@@ -18,7 +18,7 @@ use rules::refusal::Fault;
 pub enum Side {
     Reading,
     Single(Atom),
-    Pair(ArrayVec<Operation, CAPACITY>),
+    Pair(Operations),
 }
 
 // A line that was read.
@@ -89,29 +89,31 @@ impl<'a> Cursor<'a> {
 }
 
 impl<'a> LineReader<'a> {
-    // A reading, an atom that stands alone, or a pair.
-    fn side(&mut self) -> Result<Side, Failure>
+    // A reading, an atom that stands alone, or a pair, whose operations are pushed. They stay with the reader until the whole line
+    // is read, since a row of them takes more than a kilobyte and is not to be moved from call to call.
+    fn side(&mut self) -> Result<SideKind, Failure>
         requires bytes { length self.old.cursor.rest.now ≤ 78 }
         requires operations { self.old.operations.items ≡ [] }
-        ensures { SideRead (side_at self.old.cursor.rest.now) result self.new.cursor.rest.now }
+        ensures { SideRead (side_at self.old.cursor.rest.now) result self.new }
     {
         if let [b'?', rest @ ..] = self.cursor.rest {
             self.cursor.rest = rest;
-            return Ok(Side::Reading);
+            return Ok(SideKind::Reading);
         }
-        let left = self.operand(Depth::none())?;
+        let depth = Depth::none();
+        let left = self.operand(depth)?;
         if let Some(atom) = alone(left, self.cursor.rest) {
-            return Ok(Side::Single(atom));
+            return Ok(SideKind::Single(atom));
         }
-        self.second(left, Depth::none())?;
-        Ok(Side::Pair(self.operations.take()))
+        self.second(left, depth)?;
+        Ok(SideKind::Pair)
     }
 
     // Opening, side, comma and target, and nothing more.
-    fn line(&mut self) -> Result<ReadLine, Failure>
+    fn parts(&mut self) -> Result<LineParts, Failure>
         requires bytes { length self.old.cursor.rest.now ≤ 80 }
         requires operations { self.old.operations.items ≡ [] }
-        ensures { LineRead (line_at self.old.cursor.rest.now) result }
+        ensures { PartsRead (line_at self.old.cursor.rest.now) result self.new }
     {
         let group = self.cursor.opening()?;
         let side = self.side()?;
@@ -120,7 +122,7 @@ impl<'a> LineReader<'a> {
         if !self.cursor.rest.is_empty() {
             return Err(self.cursor.out_of_place());
         }
-        Ok(ReadLine {
+        Ok(LineParts {
             group,
             side,
             target,
@@ -142,14 +144,38 @@ pub fn read_line(text: &[u8]) -> Result<ReadLine, Misread>
     }
     let mut reader = LineReader {
         cursor: Cursor { rest: text },
-        operations: ArrayVec::new(),
+        operations: Operations::new(),
     };
     // no `map_err`: that a failure leaves no more bytes than there were is known of this one only
-    match reader.line() {
-        Ok(line) => Ok(line),
-        Err(e) => Err(Misread {
-            fault: e.fault,
-            place: text.len() + 1 - e.left,
+    let LineParts {
+        group,
+        side,
+        target,
+    } = match reader.parts() {
+        Ok(parts) => parts,
+        Err(e) => {
+            return Err(Misread {
+                fault: e.fault,
+                place: text.len() + 1 - e.left,
+            });
+        }
+    };
+    // the whole answer in each case, so that the row of operations is moved into it once, and for a pair only
+    match side {
+        SideKind::Reading => Ok(ReadLine {
+            group,
+            side: Side::Reading,
+            target,
+        }),
+        SideKind::Single(atom) => Ok(ReadLine {
+            group,
+            side: Side::Single(atom),
+            target,
+        }),
+        SideKind::Pair => Ok(ReadLine {
+            group,
+            side: Side::Pair(reader.operations),
+            target,
         }),
     }
 }

@@ -5,20 +5,17 @@ ghost use Rattle.reader.specs.Pairs.{OperandRead, PairRead, SecondRead, Nested, 
 
 use crate::cursor::{Cursor, start};
 use crate::failure::Failure;
-use arrayvec::ArrayVec;
+use crate::operations::Operations;
 use rules::formula::{Atom, Start};
 use rules::limits::DEPTH_LIMIT;
 use rules::operation::{Operation, Source};
 use rules::refusal::Fault;
 
-// A line of 80 bytes has at most 19 operations.
-pub const CAPACITY: usize = 19;
-
 // What is still to be read of a line, and the operations of what was read.
 #[derive(Drop)]
 pub(crate) struct LineReader<'a> {
     pub(crate) cursor: Cursor<'a>,
-    pub(crate) operations: ArrayVec<Operation, CAPACITY>,
+    pub(crate) operations: Operations,
 }
 
 // How many parentheses may still be opened, and how many results wait.

@@ -33,7 +33,8 @@ impl DigitQueue {
 
     // The bytes as they lie in the memory.
     pub fn as_bytes(&self) -> &[u8]
-        ensures { result.now ≡ line_of self.now.line }
+        ensures bytes { result.now ≡ line_of self.now.line }
+        ensures fits { length result.now ≤ 240 }
     {
         self.line.as_bytes()
     }
@@ -51,7 +52,7 @@ impl ReadingQueue for DigitQueue {
     }
 
     fn drop_first(&mut self) -> Result<(), Refusal> {
-        self.line.drop_first().ok_or(Refusal::NoneWaiting)
+        self.line.remove_first().ok_or(Refusal::NoneWaiting)
     }
 
     fn push(&mut self, number: Number) -> Result<(), Refusal> {

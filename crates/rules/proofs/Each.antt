@@ -1,7 +1,22 @@
 -- What holds of each number of a list, and of the 0 that a list counts as past its end.
-use Rattle.std.proofs.Common.{◌≡◌, ℕ, List, [], ◌∷◌, ◌++◌, length, get_or, drop, replicate, sym, refl, ap, ◌∙◌, subst, ⊎_elim, arith}
-use Rattle.std.proofs.lemmas.List.{get_or-replicate, get_or_past, get_or-drop, get_or_append_left, get_or-append_right, length-replicate}
+use Rattle.std.proofs.Common.{◌≡◌, ℕ, List, [], ◌∷◌, ◌++◌, length, get_or, take, drop, set, replicate, sym, refl, ap, ◌∙◌, subst, ⊎_elim, arith}
+use Rattle.std.proofs.lemmas.List.{get_or-set_same, get_or-set_other, set_past, get_or-replicate, get_or_past, get_or-take, get_or-drop, get_or_append_left, get_or-append_right, length-replicate, length-take}
 use Rattle.std.proofs.lemmas.Bool.{cases_lt, cases_eq}
+
+pub each_set : (P : ℕ → Type 0) (l : List ℕ) (a n : ℕ) → P n → ((i : ℕ) → P (get_or l i 0)) → (i : ℕ) → P (get_or (set l a n) i 0)
+each_set P l a n h b i =
+    ⊎_elim
+    (λ same. ⊎_elim
+    (λ w. subst P (sym (rw same (get_or-set_same l a n 0 w))) h)
+    (λ w. subst (λ k. P (get_or k i 0)) (sym (set_past l a n w)) (b i))
+    (cases_lt a (length l)))
+    (λ ne. subst P (sym (get_or-set_other l a i n 0 ne)) (b i))
+    (cases_eq i a)
+
+pub each_take : (P : ℕ → Type 0) (l : List ℕ) (k : ℕ) → P 0 → ((i : ℕ) → P (get_or l i 0)) → (i : ℕ) → P (get_or (take k l) i 0)
+each_take P l k z b i =
+    let n = length-take k l in
+    ⊎_elim (λ h. subst P (sym (get_or-take k l i 0 h)) (b i)) (λ h. subst P (sym (get_or_past (take k l) i 0 (omega arith))) z) (cases_lt i k)
 
 pub each_drop : (P : ℕ → Type 0) (l : List ℕ) (k : ℕ) → ((i : ℕ) → P (get_or l i 0)) → (i : ℕ) → P (get_or (drop k l) i 0)
 each_drop P l k b i = subst P (sym (get_or-drop k l i 0)) (b _)

@@ -4,9 +4,12 @@ use Rattle.rules.specs.declared.sign.Sign.{Sign}
 use Rattle.rules.specs.declared.operation.Source.{Source}
 use Rattle.rules.specs.declared.operation.Source.TheVariants.{Named, Temporary}
 use Rattle.rules.specs.declared.operation.Operation.{Operation}
+use Rattle.rules.specs.declared.operation.SideKind as kinds
+use Rattle.rules.specs.declared.operation.SideKind.TheVariants as k
+use Rattle.rules.specs.declared.operation.LineParts.{LineParts}
 use Rattle.rules.specs.declared.refusal.Report.{Report}
 use Rattle.rules.specs.Refusals.{report}
-use Rattle.rules.specs.Tree.{Operand, atom, pair, Side, reading, single, both, Program}
+use Rattle.rules.specs.Tree.{Operand, atom, pair, Side, reading, single, both, Line, Program}
 
 -- where an operand is found with w results waiting: a pair's own result has become the next temporary
 abbrev pub source : Operand → ℕ → Source
@@ -31,6 +34,14 @@ abbrev pub side_operations : Side → List Operation
 side_operations reading = []
 side_operations (single x) = []
 side_operations (both l s r) = operations (pair l s r) 0
+
+abbrev pub side_kind : Side → kinds.SideKind
+side_kind reading = k.Reading
+side_kind (single x) = k.Single x
+side_kind (both l s r) = k.Pair
+
+abbrev pub line_parts : Line → LineParts
+line_parts l = record { group = l.group; side = side_kind l.side; target = l.target }
 
 -- a line without operation is one instruction
 abbrev pub side_count : Side → ℕ

@@ -16,7 +16,7 @@ pub const INSTRUCTION_LIMIT: usize = 372;
 pub const LONGEST_TAPE: usize = 491;
 
 // What the devices hold: the cells of a store, the first number that is too large for a cell or a reading, the readings that
-// wait at most, and the codes of a label at most; a code is a byte.
+// wait at most, the codes of a label at most, and the greatest code, which is the greatest byte.
 pub const CELL_COUNT: usize = 1_000;
 
 pub const NUMBER_LIMIT: u64 = 100_000_000_000_000;
@@ -24,3 +24,5 @@ pub const NUMBER_LIMIT: u64 = 100_000_000_000_000;
 pub const QUEUE_LIMIT: usize = 16;
 
 pub const LABEL_LIMIT: usize = 48;
+
+pub const GREATEST_CODE: u64 = 255;

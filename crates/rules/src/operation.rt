@@ -1,7 +1,8 @@
 ghost use Rattle.std.specs.Prelude.{◌≡◌};
 ghost use Rattle.rules.specs.declared.operation.Source.TheVariants.{Temporary};
 
-use crate::formula::Atom;
+use crate::formula::{Atom, Target};
+use crate::ranged::Letter;
 use crate::sign::Sign;
 
 // Where an operation finds an operand: what an atom names, or a temporary that holds an earlier result.
@@ -27,4 +28,20 @@ impl Default for Source {
     fn default() -> Source {
         Source::Temporary(0)
     }
+}
+
+// What kind of side a line has; a pair's operations stand in a row of their own.
+#[derive(Clone, Copy, Debug, PartialEq, Eq)]
+pub enum SideKind {
+    Reading,
+    Single(Atom),
+    Pair,
+}
+
+// A line without its operations.
+#[derive(Clone, Copy, Debug, PartialEq, Eq)]
+pub struct LineParts {
+    pub group: Letter,
+    pub side: SideKind,
+    pub target: Target,
 }
