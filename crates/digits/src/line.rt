@@ -2,7 +2,7 @@ ghost use Rattle.std.specs.Prelude.{◌≡◌, ◌^◌, ◌<◌, ◌≤◌, ◌�
 ghost use Rattle.std.specs.List.{slice_get};
 ghost use Rattle.digits.specs.Text.{line_of, Below};
 
-use crate::text::{behind_first, first_comma, first_number};
+use crate::text::{behind_first, first_comma, first_number, put_digits};
 use arrayvec::ArrayVec;
 use itoa::Buffer;
 use std::marker::Model;
@@ -79,9 +79,7 @@ impl<const N: usize> NumberLine<N> {
         if digits.len() >= self.bytes.remaining_capacity() {
             return Err(NoRoom);
         }
-        self.bytes
-            .try_extend_from_slice(digits)
-            .map_err(|_| NoRoom)?;
+        put_digits(&mut self.bytes, digits);
         self.bytes.push(b',');
         self.count += 1;
         Ok(())

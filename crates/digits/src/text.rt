@@ -1,8 +1,22 @@
-// Numbers in bytes: where the first ends, and how it is read.
-ghost use Rattle.std.specs.Prelude.{◌≡◌, ℕ, ◌^◌, ◌==◌, List, position};
+// Numbers in bytes: how digits are put behind others, where the first number ends, and how it is read.
+ghost use Rattle.std.specs.Prelude.{◌≡◌, ℕ, ◌+◌, ◌^◌, ◌≤◌, ◌==◌, List, ◌++◌, length, position};
+ghost use Rattle.arrayvec.specs.ArrayVec.{array_vec_len};
 ghost use Rattle.std.specs.Option.{option_map};
 ghost use Rattle.std.specs.List.{slice_get};
 ghost use Rattle.digits.specs.Text.{line_of, Behind, Below};
+
+use arrayvec::ArrayVec;
+
+// Puts digits at the end. One by one, since they were written so just before: to copy them as a block waits for the memory.
+pub(crate) fn put_digits<const N: usize>(bytes: &mut ArrayVec<u8, N>, digits: &[u8])
+    requires { array_vec_len bytes.old + length digits.now ≤ N }
+    ensures items { bytes.new.items ≡ bytes.old.items ++ digits.now }
+    ensures len { array_vec_len bytes.new ≡ array_vec_len bytes.old + length digits.now }
+{
+    for digit in digits {
+        bytes.push(*digit);
+    }
+}
 
 // Where the first number's comma stands.
 pub(crate) fn first_comma(text: &[u8]) -> Option<usize>

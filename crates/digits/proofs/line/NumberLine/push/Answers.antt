@@ -10,9 +10,9 @@ pub overflow_add-self : goal.overflow_add-self
 overflow_add-self g c =
     let l = push_length _ _ _ c.args.number c.self.invariant (c.as_bytes-digits.ensures.value ∙ c.format.ensures.text) in search rules
 
-pub invariant_of-self-2 : goal.invariant_of-self-2
-invariant_of-self-2 g c =
-    let h = push_held _ _ _ _ _ c.args.number c.self.invariant (omega arith) (c.as_bytes-digits.ensures.value ∙ c.format.ensures.text) (search rules) c.push.ensures.items in search rules
+pub invariant_of-self : goal.invariant_of-self
+invariant_of-self g c =
+    let h = push_held _ _ _ _ _ c.args.number c.self.invariant (omega arith) (c.as_bytes-digits.ensures.value ∙ c.format.ensures.text) c.put_digits.ensures.items c.push.ensures.items in search rules
 
 pub returns-clause-room : goal.returns-clause-room
 returns-clause-room g c =
@@ -20,8 +20,4 @@ returns-clause-room g c =
 
 pub returns-clause-held : goal.returns-clause-held
 returns-clause-held g c =
-    let h = push_held _ _ _ _ _ c.args.number c.self.invariant (omega arith) (c.as_bytes-digits.ensures.value ∙ c.format.ensures.text) (search rules) c.push.ensures.items in search rules
-
-pub returns-in_err-map_err-clause-room : goal.returns-in_err-map_err-clause-room
-returns-in_err-map_err-clause-room g c =
-    let l = push_length _ _ _ c.args.number c.self.invariant (c.as_bytes-digits.ensures.value ∙ c.format.ensures.text) in search rules
+    let h = push_held _ _ _ _ _ c.args.number c.self.invariant (omega arith) (c.as_bytes-digits.ensures.value ∙ c.format.ensures.text) c.put_digits.ensures.items c.push.ensures.items in search rules
