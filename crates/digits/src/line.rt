@@ -42,8 +42,12 @@ impl<const N: usize> NumberLine<N> {
 
     // How many numbers stand there.
     pub fn count(&self) -> usize
-        ensures { result ≡ length self.now }
+        ensures count { result ≡ length self.now }
+        ensures fits { length (line_of self.now) ≤ N }
+        ensures below { Below (2 ^ 64) self.now }
     {
+        // the bytes say what the row is at most; the field by its name, so that an edit of it stands alone
+        let _bytes = self.as_bytes();
         let NumberLine { count, .. } = self;
         *count
     }
