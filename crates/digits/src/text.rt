@@ -7,7 +7,7 @@ ghost use Rattle.digits.specs.Text.{line_of, Behind, Below};
 
 use arrayvec::ArrayVec;
 
-// Puts digits at the end. One by one, since they were written so just before: to copy them as a block waits for the memory.
+// Puts digits at the end, one by one: to copy them as a block was no quicker for short numbers.
 pub(crate) fn put_digits<const N: usize>(bytes: &mut ArrayVec<u8, N>, digits: &[u8])
     requires { array_vec_len bytes.old + length digits.now ≤ N }
     ensures items { bytes.new.items ≡ bytes.old.items ++ digits.now }
