@@ -13,10 +13,6 @@ with_digit n b = n * 10 + (b - 48)
 abbrev pub written_by : ℕ → List ℕ → ℕ
 written_by i digits = fold with_digit 0 (take i digits) % 2 ^ 64
 
--- one digit more
-pub held_more : (v m d : ℕ) → m ≡ v % 2 ^ 64 → ((m * 10) % 2 ^ 64 + d) % 2 ^ 64 ≡ (v * 10 + d) % 2 ^ 64
-held_more v m d e = omega arith
-
 written_decimal : (n : ℕ) → n < 2 ^ 64 → fold with_digit 0 (decimal n) % 2 ^ 64 ≡ n
 written_decimal n h =
     let t = ap (fold with_digit 0) (sym (append-nil (decimal n))) ∙ through_digits (λ m bs. fold with_digit m bs) (λ m b bs c. refl) n h [] in
